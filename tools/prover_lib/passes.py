@@ -26,25 +26,21 @@ def chosen(crate: Crate, edits: list[Edit], number: int, kept: dict[str, Tried])
 
 
 def try_bodies(crate: Crate, kept: dict[str, Tried], words: list[str]) -> dict[str, Tried]:
-    """Tries the edits of bodies, pass for pass: those that a pass doesn't refuse are tried in a later one."""
+    """Tries the edits of bodies, pass for pass, and tells where each was refused, of those that were: what a pass doesn't refuse is
+    tried in a later one, unless that pass refused nothing."""
     left, tried, number = edits_of_bodies(crate), {}, 1
     while left:
         now = chosen(crate, left, number, kept)
         refused = try_pass(crate, now, words) if now else {}
         tried |= {name: Tried(it.place, it.goals[0], number) for name, it in refused.items()}
-        if now and not refused:
-            raise Trouble(f"{crate.name}: not refused in the functions that they change: {' '.join(it.name for it in now)}")
-        left = [edit for edit in left if edit.name not in refused]
+        left = [edit for edit in left if edit.name not in refused and (refused or edit not in now)]
         number += 1
     return tried
 
 
 def try_definitions(crate: Crate, room: pathlib.Path, kept: pathlib.Path) -> dict[str, Tried]:
     found = {edit.name: try_alone(crate, edit, kept, room / edit.name) for edit in edits_of_definitions(crate)}
-    lost = [name for name, refusal in found.items() if refusal is None]
-    if lost:
-        raise Trouble(f"{crate.name}: refused at no goal: {' '.join(lost)}")
-    return {name: Tried(it.place, it.goals[0], 0) for name, it in found.items()}
+    return {name: Tried(it.place, it.goals[0], 0) for name, it in found.items() if it}
 
 
 def tried_anew(crate: Crate, record: Record) -> list[str]:
@@ -71,20 +67,27 @@ def bundle_of(crate: Crate, record: Record) -> str | None:
     return text_of_bundle(first) if first else None
 
 
+def write_bundle(crate: Crate, record: Record) -> None:
+    text = bundle_of(crate, record)
+    if text:
+        (crate.folder / "must-fail").mkdir(exist_ok=True)
+        (crate.folder / "must-fail" / BUNDLE).write_text(text, encoding="utf-8")
+
+
 def make_record(crate: Crate, is_anew: bool) -> Record:
     """Tries all edits, and writes the record and the bundle. It begins with what `rt check` kept, and with the passes of the record
-    before, unless it's anew."""
+    before, unless it's anew. Where an edit isn't refused, the record is of no sources."""
     sources, before = sources_of(crate), Record("", {}) if is_anew else read_record(crate)
     with tempfile.TemporaryDirectory(prefix=f"refused-{crate.name}-kept-") as name:
         room = pathlib.Path(name)
         seed = crate.folder / KEPT
         if seed.is_dir() and not is_anew:
             linked(seed, room / "bodies")
-        record = Record(sources, try_bodies(crate, before.edits, ["--incremental", str(room / "bodies")])
-                        | try_definitions(crate, room, seed))
-    text = bundle_of(crate, record)
-    if text:
-        (crate.folder / "must-fail").mkdir(exist_ok=True)
-        (crate.folder / "must-fail" / BUNDLE).write_text(text, encoding="utf-8")
+        tried = try_bodies(crate, before.edits, ["--incremental", str(room / "bodies")]) | try_definitions(crate, room, seed)
+    lost = [it.name for it in [*edits_of_bodies(crate), *edits_of_definitions(crate)] if it.name not in tried]
+    record = Record("" if lost else sources, tried)
+    write_bundle(crate, record)
     write_record(crate, record)
+    if lost:
+        raise Trouble(f"{crate.name}: not refused at a goal, or not in a function that it changes: {' '.join(lost)}")
     return record
