@@ -14,7 +14,7 @@ from served import program_at  # noqa: E402
 COMMANDS = [["check"], ["firms"], ["test"], ["support"], ["solve"], ["solve", "--csv"], ["solve", "--csv=wide"], ["range"], ["range", "--csv"], ["session"],
             ["firms", "--csv"], ["support", "--csv"], ["judge"], ["replay"]]
 # Words that read nothing, or are no command; "solve " has a blank.
-OTHERS = [["cases"], ["help"], ["-h"], ["--help"], ["--version"], [], [""], ["nonsense"], ["solve", "x"], ["solve", "--csv", "y"], ["judge", "--csv"], ["solve "],
+OTHERS = [["cases"], ["help"], ["help", "solve"], ["judge", "--help"], ["drill", "-h"], ["help", "solev"], ["-h"], ["--help"], ["--version"], [], [""], ["nonsense"], ["solve", "x"], ["solve", "--csv", "y"], ["judge", "--csv"], ["solve "],
           ["\u00e4", "\u20ac"], ["drill"], ["drill", "1", "0"], ["drill", "5", "7"], ["drill", "64", "2147483647"], ["drill", "65", "0"],
           ["drill", "0", "0"], ["drill", "x", "1"], ["drill", "03", "1"]]
 # Documents that are none, or have more bytes than one may have.
