@@ -1,9 +1,9 @@
 // Whether an exercise is the same document to the program, keeps to objections in the page, and comes back as a result.
 import assert from "node:assert/strict";
 import {test} from "node:test";
-import {applied} from "../../../page/app/edits.js";
-import {exerciseIn, exerciseMade, isAsGiven, resultIn, resultText} from "../../../page/app/exercise.js";
-import {Store} from "../../../page/app/state.js";
+import {applied} from "../../../page/app/document/edits.js";
+import {Store} from "../../../page/app/document/state.js";
+import {exerciseIn, exerciseMade, isAsGiven, resultIn, resultText} from "../../../page/app/exercise/exercise.js";
 import {Network} from "../../../page/read/network.js";
 import {answersOf} from "../ask.mjs";
 import {examples} from "./support.mjs";

@@ -1,9 +1,9 @@
 // Whether the form changes firms and trades of a text as it says, and nothing else.
 import assert from "node:assert/strict";
 import {test} from "node:test";
-import {EMPTY, objectsIn, renamed, tradesRemoved} from "../../../page/app/building.js";
-import {applied} from "../../../page/app/edits.js";
-import {formOf} from "../../../page/app/fields.js";
+import {EMPTY, objectsIn, renamed, tradesRemoved} from "../../../page/app/document/building.js";
+import {applied} from "../../../page/app/document/edits.js";
+import {formOf} from "../../../page/app/form/fields.js";
 import {parse, plain, written} from "../../../page/read/json.js";
 import {Network} from "../../../page/read/network.js";
 import {answersOf} from "../ask.mjs";

@@ -2,8 +2,8 @@
 import assert from "node:assert/strict";
 import {readdirSync, readFileSync} from "node:fs";
 import {test} from "node:test";
-import {formOf} from "../../../page/app/fields.js";
-import {languageIn} from "../../../page/app/link.js";
+import {formOf} from "../../../page/app/form/fields.js";
+import {languageIn} from "../../../page/app/sharing/link.js";
 import {barsPicture} from "../../../page/draw/bars.js";
 import {networkPicture} from "../../../page/draw/network.js";
 import {whyPicture} from "../../../page/draw/why.js";
@@ -32,9 +32,15 @@ const valuesIn = (forms) => [...new Set(Object.values(forms).flatMap((text) => t
 /** Which numbers are in a text, without what sets their digits in threes. */
 const numbersIn = (text) => [...new Set((text.match(/-?\d[\d.,/]*/g) ?? []).map((number) => number.replace(/[.,]/g, "")))].sort().join();
 
+/** The files below a folder of page/. */
+function filesBelow(folder) {
+    return readdirSync(new URL(folder, PAGE), {withFileTypes: true}).flatMap((each) =>
+        each.isDirectory() ? filesBelow(`${folder}/${each.name}`) : [`${folder}/${each.name}`]);
+}
+
 /** What a source asks for: texts in quotes that are keys, or would be. */
 function askedFor(parts) {
-    const files = ["app", "draw", "read", "say"].flatMap((folder) => readdirSync(new URL(folder, PAGE)).map((name) => `${folder}/${name}`));
+    const files = ["app", "draw", "read", "say"].flatMap(filesBelow);
     const key = new RegExp(`"((?:${parts.join("|")})\\.\\w+)"`, "g");
     const sources = [...files, "index.html"].flatMap((file) => [...readFileSync(new URL(file, PAGE), "utf8").matchAll(key)].map(([, found]) => found));
     const groups = [...readFileSync(new URL("examples.txt", PAGE), "utf8").matchAll(/^[^:]+/gm)].map(([found]) => found);

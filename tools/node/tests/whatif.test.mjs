@@ -2,10 +2,10 @@
 import assert from "node:assert/strict";
 import {readFileSync} from "node:fs";
 import {test} from "node:test";
-import {supposedScene} from "../../../page/app/difference.js";
-import {applied, memberAs} from "../../../page/app/edits.js";
-import {Store} from "../../../page/app/state.js";
-import {isAsked, isHidden, suppose} from "../../../page/app/suppose.js";
+import {applied, memberAs} from "../../../page/app/document/edits.js";
+import {Store} from "../../../page/app/document/state.js";
+import {supposedScene} from "../../../page/app/whatif/difference.js";
+import {isAsked, isHidden, suppose} from "../../../page/app/whatif/suppose.js";
 import {parse, plain} from "../../../page/read/json.js";
 import {Network} from "../../../page/read/network.js";
 import {compared, contributions, editsOf, editsTo, ownStart} from "../../../page/read/states.js";

@@ -3,12 +3,12 @@
 import assert from "node:assert/strict";
 import {deflateRawSync} from "node:zlib";
 import {test} from "node:test";
-import {claimedAs, fieldsOf, leftOut, spoilt, toggledIn} from "../../../page/app/claims.js";
-import {countedOver, outcomeOf, signed, signedAs, unsigned} from "../../../page/app/contracts.js";
-import {applied, arranged, priced, turned} from "../../../page/app/edits.js";
-import {isOneLine, laidOut} from "../../../page/app/lines.js";
-import {bytesIn, fragmentOf} from "../../../page/app/link.js";
-import {isOld, networkOf, Store} from "../../../page/app/state.js";
+import {claimedAs, fieldsOf, leftOut, spoilt, toggledIn} from "../../../page/app/document/claims.js";
+import {countedOver, outcomeOf, signed, signedAs, unsigned} from "../../../page/app/document/contracts.js";
+import {applied, arranged, priced, turned} from "../../../page/app/document/edits.js";
+import {isOneLine, laidOut} from "../../../page/app/document/lines.js";
+import {isOld, networkOf, Store} from "../../../page/app/document/state.js";
+import {bytesIn, fragmentOf} from "../../../page/app/sharing/link.js";
 import {parse, plain, written} from "../../../page/read/json.js";
 import {Network} from "../../../page/read/network.js";
 import {draws, examples} from "./support.mjs";

@@ -1,0 +1,59 @@
+// What takes place and at which prices, as a guess or as what is signed: read from the text, and changed in it.
+import {entriesOf, itemsOf} from "../../read/network.js";
+import {countedOver, outcomeOf, signed, signedAs, unsigned} from "./contracts.js";
+import {arranged, priced, turned} from "./edits.js";
+import {networkOf} from "./state.js";
+
+/** The names of the trades that take place, or are signed, and the price of each, of what is signed its numerator. */
+export function termsOf({document, view}) {
+    const network = networkOf(document);
+    if (view.mode === "guess") return {on: new Set(itemsOf(network.arrangement.on)), prices: entriesOf(network.arrangement.prices)};
+    const {contracts} = outcomeOf(network);
+    return {on: new Set(contracts.keys()), prices: contracts};
+}
+
+/** The price of a trade as a whole number; of one that isn't signed, that of the guess; 0 where it has none. */
+export function priceOf({document, view}, trade) {
+    const network = networkOf(document), known = termsOf({document, view}).prices.get(trade);
+    if (view.mode === "sign" && known === undefined) return guessed(network, trade);
+    return typeof known === "bigint" ? known : 0n;
+}
+
+/** The price of a trade in the guess, counted over the outcome's denominator. */
+function guessed(network, trade) {
+    const price = entriesOf(network.arrangement.prices).get(trade);
+    return typeof price === "bigint" ? price * outcomeOf(network).over : 0n;
+}
+
+/** Gives a trade a price by a change of the text, and signs it where contracts are looked at. */
+export function setPrice(store, trade, price, mark = null) {
+    const change = store.value.view.mode === "sign" ? signed : priced;
+    store.act("edited", change(networkOf(store.value.document), new Map([[trade, String(price)]])), mark);
+}
+
+/** Turns a trade on or off by a change of the text, or signs it or takes its contract away. */
+export function turn(store, trade, isOn = !termsOf(store.value).on.has(trade)) {
+    const network = networkOf(store.value.document);
+    if (store.value.view.mode === "guess") return store.act("edited", turned(network, trade, isOn));
+    return store.act("edited", isOn ? signed(network, new Map([[trade, String(priceOf(store.value, trade))]])) : unsigned(network, trade));
+}
+
+/** Makes a guess of some trades and prices. */
+export function arrange(store, names, prices) {
+    const inLetters = new Map(prices.map(([name, price]) => [name, String(price)]));
+    store.act("edited", arranged(networkOf(store.value.document), names, inLetters));
+}
+
+/** Signs what takes place in the guess, at its prices, over the denominator that is there. */
+export function signGuess(store) {
+    const network = networkOf(store.value.document), {on} = termsOf({...store.value, view: {mode: "guess"}});
+    const names = network.trades.map(({name}) => name).filter((name) => on.has(name));
+    store.act("edited", signedAs(network, outcomeOf(network).over, new Map(names.map((name) => [name, String(guessed(network, name))]))));
+}
+
+/** Counts the prices of what is signed over another denominator, and answers whether they are whole then. */
+export function countOver(store, over) {
+    const edits = countedOver(networkOf(store.value.document), over);
+    if (edits !== null) store.act("edited", edits);
+    return edits !== null;
+}

@@ -1,0 +1,270 @@
+// A form for the firms and trades of a document, as plain data: what can be put in, what stands there, and by which changes
+// of the text. One firm is shown at a time, and all trades.
+import {limitsOf} from "../../read/limits.js";
+import {say} from "../../words/say.js";
+import {
+    firmAdded, firmRemoved, freeName, itemAdded, itemRemoved, itemsIn, moved, NAME, numbered, objectsIn, ofKind, renamed,
+    stretched, textAt, toggled, tradeAdded, tradesRemoved,
+} from "../document/building.js";
+import {memberOf, put, replaced} from "../document/edits.js";
+
+const WHOLE = /^(0|-?[1-9]\d{0,9})$/, COUNT = /^(0|-?[1-9]\d?)$/;
+
+/** The kinds of firms, each with the key of what it is for. */
+const KINDS = [["table", "kind.table"], ["laminar", "kind.laminar"], ["middleman", "kind.middleman"],
+    ["dealer", "kind.dealer"]];
+
+/** How many rows of a table, and beyond how many trades only those of the firm, are in the form. */
+const MOST_ROWS = 40, MOST_TRADES = 160;
+
+/**
+ * The form of a document, as groups `{key, title, hint, lines}`; a line is `{key, says, controls}`. A control has a `key`, a
+ * `kind`, what it `says`, its whole `name` for those who listen, its `value`, and `put`, which makes edits of what is put in.
+ * It may have `isRight`, which says what may be put in, and `then`, which is another view of the page after the change; one
+ * with `look` in the place of `put` is such a view alone. `built` is the place of the firm that is shown, and `ends` are those
+ * of a trade that is to be added.
+ */
+export function formOf(network, {built, ends}) {
+    if (network.root.kind !== "object") return [];
+    const firms = objectsIn(network, "firms"), names = firms.map(({name}) => name);
+    const place = Math.min(built, firms.length - 1), here = firms[place];
+    const parts = here ? ofFirm(network, here, names) : [];
+    return [firmsGroup(network, names, place), ...parts, tradesGroup(network, names, here, ends)];
+}
+
+function button(key, says, name, change) {
+    return {key, kind: "button", says, name, put: change};
+}
+
+function box(key, says, name, value, change) {
+    return {key, kind: "box", says, name, value, put: change};
+}
+
+function number(key, says, name, value, change) {
+    return {key, kind: "number", says, name, value, isRight: (text) => WHOLE.test(text), put: change};
+}
+
+/** A choice, which makes a change, or another view of the page. */
+function choice(key, says, name, value, options, does) {
+    return {key, kind: "choice", says, name, value, options: options.map(([each, shown]) => ({value: each, says: shown})), ...does};
+}
+
+/** A name that can be changed to one that no other has. `keys` are of what it says, and of its whole name. */
+function nameOf(key, keys, network, list, node, names) {
+    const value = textAt(node, "name"), isFree = (text) => text === value || !names.includes(text);
+    const isRight = (text) => NAME.test(text) && isFree(text), change = (text) => renamed(network, list, node, text);
+    return {key, kind: "name", says: say(keys[0]), name: say(keys[1], {name: value}), value, isRight, put: change};
+}
+
+function firmsGroup(network, names, place) {
+    const fresh = freeName(names, "F", String), options = names.map((name, k) => [`${k}`, name]);
+    const add = {...button("firm add", say("form.add_firm"), say("form.add_firm"), () => firmAdded(network, fresh)),
+        then: {built: names.length}};
+    const pick = choice("firm", say("head.firm"), say("head.firm"), `${place}`, options,
+        {look: (built) => ({built: Number(built)})});
+    return {key: "firms", title: say("page.firms"), lines: [{key: "firms", controls: place < 0 ? [add] : [pick, add]}]};
+}
+
+/** The parts of the form that are of one firm. */
+function ofFirm(network, {node, name}, names) {
+    const kind = textAt(node, "kind"), remove = () => firmRemoved(network, node), own = ownTrades(network, name);
+    const head = [
+        nameOf("firm name", ["head.name", "form.name_of"], network, "firms", node, names),
+        choice("firm kind", say("form.kind"), say("form.kind"), kind, KINDS.map(([each, says]) => [each, say(says)]),
+            {put: (next) => ofKind(network, node, next)}),
+        button("firm out", say("form.remove_it"), say("form.remove_firm", {name}), remove)];
+    const hint = own.length === 0 ? say("form.no_trades") : "";
+    const parts = own.length === 0 ? [] : PARTS[kind]?.(network, node, own) ?? [];
+    return [{key: "firm", title: say("form.the_firm", {name}), hint, lines: [{key: "head", controls: head}]}, ...parts];
+}
+
+/** The trades of a firm, each with whether it is a sale. */
+function ownTrades(network, firm) {
+    const all = objectsIn(network, "trades").map(({node, name}) => ({name, ends: [textAt(node, "seller"), textAt(node, "buyer")]}));
+    return all.filter(({ends}) => ends.includes(firm)).map(({name, ends: [seller]}) => ({name, isSale: seller === firm}));
+}
+
+const PARTS = {table: tableParts, laminar: laminarParts, middleman: middlemanParts, dealer: dealerParts};
+
+function tableParts(network, firm, own) {
+    const rows = itemsIn(firm, "rows").filter(({value: [bundle]}) => bundle?.kind === "list"), shown = rows.slice(0, MOST_ROWS);
+    const lines = shown.map((row, k) => rowLine(firm, own, row, k)), left = rows.length - shown.length;
+    const hint = [say("form.of_rows"), ...(left > 0 ? [say("form.more_rows", {count: left})] : [])].join(" ");
+    return [{key: "rows", title: say("form.worths"), hint,
+        lines: [...lines, {key: "row add", controls: rowButtons(firm, own, rows)}]}];
+}
+
+/** The trades in a list of them. */
+function namesIn(list) {
+    return list.value.map(({value}) => value);
+}
+
+function rowLine(firm, own, row, k) {
+    const [bundle, worth] = row.value, names = namesIn(bundle);
+    const says = names.length === 0 ? say("list.none") : names.join(", ");
+    const boxes = own.map(({name}) => box(`row ${k} ${name}`, name, say("form.in_row", {name, row: k + 1}),
+        names.includes(name), (isIn) => toggled(bundle, name, isIn)));
+    const now = worth?.kind === "number" ? worth.value.text : "";
+    const field = number(`row ${k} worth`, say("form.worth"), say("form.worth_of_row", {row: k + 1}), now,
+        (text) => replaced(worth, text));
+    const out = button(`row ${k} out`, say("form.remove"), say("form.remove_row", {trades: says}),
+        () => itemRemoved(firm, "rows", row));
+    return {key: `row ${k}`, controls: worth ? [...boxes, field, out] : [...boxes, out]};
+}
+
+/** Rows may be added as long as a bundle has none: first those of one trade. */
+function rowButtons(firm, own, rows) {
+    const free = freeBundle(own.map(({name}) => name), rows.map(({value: [bundle]}) => namesIn(bundle)));
+    const change = () => itemAdded(firm, "rows", `[${JSON.stringify(free)},0]`);
+    return free === null ? [] : [button("row add", say("form.add_row"), say("form.add_row"), change)];
+}
+
+function freeBundle(names, bundles) {
+    const taken = new Set(bundles.map((bundle) => names.filter((name) => bundle.includes(name)).join(" ")));
+    const after = (bundle) => names.slice(names.indexOf(bundle[bundle.length - 1]) + 1);
+    let some = [[]];
+    for (let count = 1; count <= Math.min(names.length, 14); count += 1) {
+        some = some.flatMap((bundle) => after(bundle).map((name) => [...bundle, name]));
+        const found = some.find((bundle) => !taken.has(bundle.join(" ")));
+        if (found) return found;
+    }
+    return null;
+}
+
+/** The number of a trade in a list of entries; 0 where it has none. */
+function entryOf(firm, list, trade) {
+    const isIts = ({value: [first, second]}) => first?.value === trade && second?.kind === "number";
+    return itemsIn(firm, list).find(isIts)?.value[1].value.text ?? "0";
+}
+
+function entries(firm, list, trades, what) {
+    return trades.map(({name}) => number(`${list} ${name}`, name, say(what, {name}), entryOf(firm, list, name),
+        (text) => numbered(firm, list, name, text)));
+}
+
+function laminarParts(network, firm, own) {
+    const sets = (memberOf(firm, "sets", "list")?.value ?? []).filter(({kind}) => kind === "object");
+    const amounts = {key: "amounts", controls: entries(firm, "amounts", own, "form.amount_of")};
+    const add = button("set add", say("form.add_set"), say("form.add_set"),
+        () => itemAdded(firm, "sets", freshSet(own)));
+    return [
+        {key: "amounts", title: say("form.amounts"), hint: say("form.of_amounts"), lines: [amounts]},
+        ...sets.map((set, k) => setGroup(network, firm, own, set, k)),
+        {key: "set add", title: say("form.sets"), hint: say("form.of_sets"),
+            lines: [{key: "set add", controls: [add]}]}];
+}
+
+/** A capacity of one trade on each side on which the firm has some. */
+function freshSet(own) {
+    const from = own.some(({isSale}) => isSale) ? -1 : 0, to = own.every(({isSale}) => isSale) ? 0 : 1;
+    const zeros = Array.from({length: to - from + 1}, () => 0);
+    return JSON.stringify({trades: own.map(({name}) => name), from, values: zeros});
+}
+
+function setGroup(network, firm, own, set, k) {
+    const list = memberOf(set, "trades", "list"), values = memberOf(set, "values", "list")?.value ?? [], key = `set ${k}`;
+    const from = Number(memberOf(set, "from", "number")?.value.text ?? 0);
+    const boxes = own.map(({name}) => box(`${key} ${name}`, name, say("form.in_set", {name, set: k + 1}),
+        list !== null && namesIn(list).includes(name), (isIn) => toggled(list, name, isIn)));
+    const numbers = values.map((value, place) => {
+        const says = counted(from + place), now = network.text.slice(value.start, value.end);
+        return number(`${key} number ${place}`, says, say("form.set_count", {set: k + 1, count: says}), now,
+            (text) => replaced(value, text));
+    });
+    const out = button(`${key} out`, say("form.remove_it"), say("form.remove_set", {set: k + 1}),
+        () => itemRemoved(firm, "sets", set));
+    return {key, title: say("form.set", {set: k + 1}), lines: [
+        {key: "trades", says: say("page.trades"), controls: list === null ? [] : boxes},
+        {key: "counts", says: say("form.counts"), controls: setEnds(network, set, k, from, from + values.length - 1)},
+        {key: "numbers", says: say("form.numbers"), controls: numbers}, {key: "out", controls: [out]}]};
+}
+
+/** The least and the greatest net count of a set; 0 stays between them. */
+function setEnds(network, set, k, from, to) {
+    const {farthest} = limitsOf(network);
+    const end = (name, [says, whole], now, isIn, change) => {
+        const isRight = (text) => COUNT.test(text) && Math.abs(Number(text)) <= farthest && isIn(Number(text));
+        const field = number(`set ${k} ${name}`, say(says), say(whole, {set: k + 1}), `${now}`,
+            (text) => change(Number(text)));
+        return {...field, isRight};
+    };
+    return [end("least", ["form.least", "form.least_of"], from, (count) => count <= 0 && count <= to,
+        (count) => stretched(network, set, count, to)),
+        end("greatest", ["form.greatest", "form.greatest_of"], to, (count) => count >= 0 && count >= from,
+            (count) => stretched(network, set, from, count))];
+}
+
+/** A net count in words. */
+function counted(count) {
+    if (count === 0) return say("form.at_zero");
+    return count < 0 ? say("form.at_sold", {count: -count}) : say("form.at_bought", {count});
+}
+
+function middlemanParts(network, firm, own) {
+    const keep = firm.value.get("keep"), isKept = keep?.kind === "number", says = say("form.keeps");
+    const keeps = box("keeps", says, says, isKept, (isOn) => put(firm, "keep", isOn ? "0" : "null"));
+    const worth = () => number("keep", say("form.worth"), say("form.worth_of_kept"), keep.value.text,
+        (text) => replaced(keep, text));
+    const purchases = own.filter(({isSale}) => !isSale), sales = own.filter(({isSale}) => isSale);
+    return [{key: "middleman", title: say("form.middleman"), hint: say("form.of_middleman"), lines: [
+        {key: "costs", says: say("form.costs"), controls: entries(firm, "costs", purchases, "form.cost_of")},
+        {key: "gains", says: say("form.gains"), controls: entries(firm, "gains", sales, "form.gain_of")},
+        {key: "keep", controls: isKept ? [keeps, worth()] : [keeps]}]}];
+}
+
+function dealerParts(network, firm, own) {
+    const purchases = own.filter(({isSale}) => !isSale), sales = own.filter(({isSale}) => isSale), pairs = itemsIn(firm, "pairs");
+    const hasBoth = purchases.length > 0 && sales.length > 0;
+    const hint = say(hasBoth ? "form.of_pairs" : "form.no_pairs");
+    const lines = purchases.map(({name}) => ({key: `pairs ${name}`, says: say("form.as", {name}),
+        controls: sales.flatMap((sale) => pairControls(firm, pairs, name, sale.name))}));
+    return [{key: "pairs", title: say("form.pairs"), hint, lines: hasBoth ? lines : []}];
+}
+
+function pairControls(firm, pairs, purchase, sale) {
+    const pair = pairs.find(({value: [one, other]}) => one?.value === purchase && other?.value === sale), cost = pair?.value[2];
+    const key = `${purchase} as ${sale}`, says = say("form.pair", {purchase, sale}),
+        text = `[${JSON.stringify(purchase)},${JSON.stringify(sale)},0]`;
+    const change = (isOn) => isOn ? itemAdded(firm, "pairs", text) : itemRemoved(firm, "pairs", pair);
+    const isIn = box(`pair ${key}`, sale, says, pair !== undefined, change);
+    if (cost?.kind !== "number") return [isIn];
+    return [isIn, number(`cost ${key}`, say("form.costs_it"), say("form.cost_of", {name: says}), cost.value.text,
+        (next) => replaced(cost, next))];
+}
+
+function tradesGroup(network, names, here, ends) {
+    const trades = objectsIn(network, "trades"), all = trades.map(({name}) => name), isAll = trades.length <= MOST_TRADES;
+    const isShown = ({node}) => isAll || [textAt(node, "seller"), textAt(node, "buyer")].includes(here?.name);
+    const lines = trades.map((trade, k) => [trade, k]).filter(([trade]) => isShown(trade))
+        .map(([trade, k]) => tradeLine(network, trade, k, names, all));
+    const left = isAll ? "" : say("form.of_trades", {count: trades.length});
+    const hint = names.length < 2 ? say("form.two_firms") : left;
+    const added = names.length < 2 ? [] : [newTrade(network, names, all, here, ends)];
+    return {key: "trades", title: say("page.trades"), hint, lines: [...lines, ...added]};
+}
+
+function tradeLine(network, {node, name}, k, names, all) {
+    const options = names.map((each) => [each, each]);
+    const end = (side, [says, whole]) => choice(`trade ${k} ${side}`, say(says), say(whole, {name}),
+        textAt(node, side), options,
+        {put: (firm) => moved(network, node, side, firm)});
+    return {key: `trade ${k}`, controls: [
+        nameOf(`trade ${k} name`, ["head.trade", "form.trade_of"], network, "trades", node, all),
+        end("seller", ["form.from", "form.trade_from"]), end("buyer", ["form.to", "form.trade_to"]),
+        button(`trade ${k} out`, say("form.remove"), say("form.remove_trade", {name}),
+            () => tradesRemoved(network, [node]))]};
+}
+
+/** What adds a trade: of the firm that is shown to the next one, where nobody has chosen others. */
+function newTrade(network, names, all, here, ends) {
+    const isThere = (name) => names.includes(name), options = names.map((each) => [each, each]);
+    const seller = isThere(ends.seller) ? ends.seller : here.name, isOther = isThere(ends.buyer) && ends.buyer !== seller;
+    const buyer = isOther ? ends.buyer : names.find((name) => name !== seller);
+    const name = freeName(all, `${seller}-${buyer}`.toLowerCase(), (k) => k === 1 ? "" : `-${k}`);
+    const end = (side, [says, whole], value) => choice(`new ${side}`, say(says), say(whole), value, options,
+        {look: (firm) => ({ends: {...ends, [side]: firm}})});
+    return {key: "new", controls: [end("seller", ["form.from", "form.new_from"], seller),
+        end("buyer", ["form.to", "form.new_to"], buyer),
+        button("trade add", say("form.add_trade"), say("form.add_trade"),
+            () => tradeAdded(network, name, seller, buyer))]};
+}

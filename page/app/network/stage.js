@@ -1,0 +1,149 @@
+// The network as it is guessed, or as an answer has it, drawn so that its firms and lanes can be clicked and reached by keys.
+import {spanOf} from "../../draw/lanes.js";
+import {arrow, escaped, INK, NORMAL, smooth, tag, text, widthOf} from "../../draw/svg.js";
+import {say} from "../../words/say.js";
+import {BELOW, labelPlaces, NAME, planOf, PRICE} from "./plan.js";
+
+/** How far lines in a box stand from each other. */
+const HIGH = 16;
+
+const OFF = "#64748b", GOOD = "#166534", BAD = "#9a3412", INKS = {content: GOOD, unknown: INK, away: OFF};
+
+/** How many more letters than a number words below a name have where room is kept for them. */
+const BESIDE = 3;
+
+/** How long the numbers of a guess are at most, rounded so that they rarely change it. */
+function digitsOf(stands, lines) {
+    const utilities = lines.flatMap(({utility, best_utility: most}) => [utility ?? 0n, most ?? 0n]);
+    const words = lines.flatMap(({below = []}) => below.map((says) => says.slice(BESIDE)));
+    return Math.max(stands.isSigned ? 6 : 3, ...[...stands.prices.values(), ...utilities, ...words].map((number) => String(number).length));
+}
+
+/**
+ * The picture as SVG, with its size: `{svg, width, height, plan}`. `stands` has the trades that are on and the prices, `lines` those of
+ * `firms`, by name, or `{mood, below, says}` with what is to be said of a firm, `marks` the colours of trades with what they say,
+ * `focus` the names of the firms that are spoken of, and `selection` what is chosen.
+ */
+export function stageOf({network, firm, shape, stands, lines, marks, focus, selection}) {
+    const digits = digitsOf(stands, [...lines.values()]);
+    const plan = planOf(network, firm, digits, shape), on = new Set(stands.on ?? []);
+    const lanes = plan.lanes.map((lane) => laneAt(lane, on, stands, marks, selection));
+    const named = new Set(plan.lanes.filter((_, k) => lanes[k].isNamed)), labels = labelPlaces(plan, digits, (lane) => named.has(lane));
+    const drawn = lanes.map((lane, k) => ({lane, svg: laneSvg(lane, plan.places.arrows[k].points, labels[k], plan.isClose)}));
+    drawn.sort((one, other) => one.lane.rank - other.lane.rank);
+    const isChosen = ({name}) => focus.has(name) || (selection?.kind === "firm" && selection.name === name);
+    const boxes = plan.boxes.map((box) => firmSvg(box, plan.places.centers.get(box.id), lines.get(box.name), isChosen(box), plan.isClose));
+    const width = plan.places.width + 24, height = plan.places.height + 24;
+    const whole = tag("g", {transform: "translate(12 12)"}, drawn.map(({svg}) => svg.line), boxes, drawn.map(({svg}) => svg.label));
+    return {width, height, plan, svg: `<svg xmlns="http://www.w3.org/2000/svg" viewBox="0 0 ${width} ${height}">${whole}</svg>`};
+}
+
+/** The key by which a lane is chosen and found again. */
+export function laneKey({seller, buyer}) {
+    return `lane:${seller} ${buyer}`;
+}
+
+function laneAt(lane, on, stands, marks, selection) {
+    const taking = lane.trades.filter((name) => on.has(name)), isOn = taking.length > 0;
+    const mark = markOf(lane.trades.map((name) => marks.get(name)).filter(Boolean));
+    const isChosen = selection?.kind === "lane" && selection.key === laneKey(lane);
+    const price = spanOf(isOn ? taking : lane.trades, shownPrices(stands));
+    const isSigned = stands.isSigned ?? false, counts = {on: taking.length, all: lane.trades.length};
+    const name = lane.trades.length === 1 ? lane.trades[0] : say(isSigned ? "stage.signed" : "stage.on", counts);
+    const isNamed = isOn || mark !== null || isChosen, rank = (isChosen ? 4 : 0) + (isOn ? 2 : 0) + (mark ? 1 : 0);
+    return {...lane, key: laneKey(lane), name, price, isOn, mark, isChosen, isNamed, rank, isSigned};
+}
+
+/** The mark of a lane: of several that which is drawn widest, as what a step is about is. */
+function markOf(found) {
+    return found.reduce((widest, mark) => (widest === null || (mark.width ?? 0) > (widest.width ?? 0) ? mark : widest), null);
+}
+
+const numbers = new WeakMap();
+
+/** The prices that are numbers; a document that is being typed may have others. */
+function shownPrices(stands) {
+    if (!numbers.has(stands)) numbers.set(stands, new Map([...stands.prices].filter(([, price]) => /^-?\d+(\/\d+)?$/.test(price))));
+    return numbers.get(stands);
+}
+
+function laneSvg(lane, points, at, isClose) {
+    const ink = lane.mark?.ink ?? (lane.isOn ? INK : OFF);
+    const width = lane.mark?.width ?? (lane.isOn ? 4 : lane.mark ? 2 : 1.2);
+    const drawn = arrow(points, {ink, width, dashes: !lane.isOn && lane.mark ? lane.mark.dashes ?? "7 4" : null});
+    const says = laneSays(lane), chosen = lane.isChosen ? " chosen" : "";
+    const attributes = {class: `lane${lane.isOn ? " on" : ""}${chosen}`, "data-key": lane.key, "data-trades": lane.trades.join(" ")};
+    const words = isClose ? lineLabel : twoLines;
+    return {
+        line: tag("g", {...attributes, role: "button", tabindex: 0, "aria-pressed": lane.isOn ? "true" : "false", "aria-label": says},
+            tag("title", {}, escaped(says)), tag("path", {class: "hit", d: smooth(points)}), drawn),
+        label: at && tag("g", {class: `lane-label${chosen}`, "data-of": lane.key, "aria-hidden": "true"}, words(lane, at, ink))};
+}
+
+/** What a lane is, for those who hear it: whether it takes place or is signed. */
+const STATES = {true: {true: "stage.is_signed", false: "stage.is_not_signed"},
+    false: {true: "stage.is_on", false: "stage.is_off"}};
+
+/** A lane in words, for those who hear it. */
+function laneSays({trades, seller, buyer, name, price, isOn, mark, isSigned}) {
+    const priced = price === null ? say("stage.no_price") : say("stage.at", {price});
+    const marks = mark === null ? [] : [mark.says];
+    const values = {name, seller, buyer, priced, count: trades.length};
+    if (trades.length === 1) return say("stage.trade",
+        {...values, state: [say(STATES[isSigned][isOn]), ...marks].join(", ")});
+    return say("stage.trades", {...values, trades: [trades.join(", "), ...marks].join("; ")});
+}
+
+/** The name of a lane, with the sign of what comes or goes. */
+function signed({name, mark}) {
+    return mark?.sign ? `${mark.sign} ${name}` : name;
+}
+
+function twoLines(lane, {x, y}, ink) {
+    const {price, isOn} = lane, name = signed(lane);
+    const width = Math.max(widthOf(name, NORMAL), widthOf(price ?? "", PRICE)) + 10, weight = isOn ? "bold" : null;
+    return [tag("rect", {x: x - width / 2, y: y - 17, width, height: 34, rx: 4}),
+        text(x, y - 4, name, {ink, weight}), price === null ? null : text(x, y + 12, price, {size: PRICE, ink, weight})];
+}
+
+function lineLabel(lane, {x, y}, ink) {
+    const {price, isOn} = lane, name = signed(lane), says = price === null ? name : say("picture.at", {name, price});
+    const width = widthOf(says, NORMAL) + 6;
+    return [tag("rect", {x: x - width / 2, y: y - 8, width, height: 16, rx: 3}), text(x, y + 4, says, {ink, weight: isOn ? "bold" : null})];
+}
+
+function firmSvg({name, width, height}, {x, y}, line, isChosen, isClose) {
+    const mood = moodOf(line);
+    const box = {x: x - width / 2, y: y - height / 2, width, height, rx: 6};
+    const attributes = {class: `firm ${mood}${isChosen ? " chosen" : ""}`, "data-key": `firm:${name}`, "data-firm": name};
+    const style = {size: BELOW, ink: INKS[mood] ?? BAD, weight: INKS[mood] ? null : "bold"};
+    const lines = line ? belowOf(line, isClose) : [], top = y + 4 - lines.length * HIGH / 2;
+    return tag("g", {...attributes, role: "button", tabindex: 0, "aria-label": firmSays(name, line)}, tag("rect", box),
+        text(x, top, name, {size: NAME, weight: "bold"}), lines.map((says, k) => text(x, top + 1 + (k + 1) * HIGH, says, style)));
+}
+
+/** Whether a firm is content, objects, or has what is impossible, as a class; "unknown" where nothing is answered of it. */
+export function moodOf(line) {
+    if (!line || line.mood) return line?.mood ?? "unknown";
+    return line.worth === null ? "impossible" : line.gain === 0n ? "content" : "objects";
+}
+
+/** What stands below the name of a firm: a sign and its utility, and the best that it could have where there is room. */
+function belowOf(line, isClose) {
+    if (line.below) return isClose ? line.below.slice(-1) : line.below;
+    const mood = moodOf(line);
+    if (mood === "content") return [`\u2713 ${line.utility}`];
+    if (mood === "impossible") return isClose ? [`\u2717 ${say("word.none")}`] : ["\u2717", say("word.impossible")];
+    return isClose ? [`\u2717 ${line.utility}`]
+        : [`\u2717 ${line.utility}`, say("word.best", {number: line.best_utility})];
+}
+
+/** A firm in words. */
+function firmSays(name, line) {
+    const mood = moodOf(line);
+    if (line?.says) return say("stage.firm_says", {name, says: line.says});
+    if (mood === "unknown") return say("stage.firm", {name});
+    if (mood === "content") return say("stage.firm_content", {name, utility: line.utility});
+    if (mood === "impossible") return say("stage.firm_impossible", {name});
+    return say("stage.firm_objects", {name, utility: line.utility, most: line.best_utility});
+}

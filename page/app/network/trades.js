@@ -1,0 +1,227 @@
+// The table of trades: each can be turned on or off, or signed, and be given a price, with the bounds of its price beside it. Of very
+// many only the rows in sight are there.
+import {say} from "../../words/say.js";
+import {outcomeOf} from "../document/contracts.js";
+import {isOld, networkOf} from "../document/state.js";
+import {setPrice, termsOf, turn} from "../document/terms.js";
+import {made, part} from "../shell/page.js";
+import {boundsAt, isWithin, scaleOf} from "./bounds.js";
+import {laneKey} from "./stage.js";
+
+const HEADS = [["head.trade", "name"], ["head.from", "seller"], ["head.to", "buyer"], ["head.on", "on"],
+    ["head.price", "price"], ["head.bounds", null]];
+
+/** How high a row is, in pixels, and beyond how many rows only those in sight are there. */
+const HIGH = 37, MOST_ROWS = 200, AROUND = 8;
+
+const WHOLE = /^-?(0|[1-9]\d{0,17})$/;
+
+let store = null, rows = [], present = new Map(), shownOf = null;
+
+/** Makes the table ready for a store. */
+export function readyTrades(of) {
+    store = of;
+    part("trades").tHead.append(headRow());
+    part("trades-scroll").addEventListener("scroll", () => requestAnimationFrame(() => fill(store.value)));
+    part("filter").addEventListener("input", () => store.act("looked", {filter: part("filter").value.trim()}));
+    part("by-firm").addEventListener("change", () => store.act("looked", {firm: part("by-firm").value || null, window: null}));
+}
+
+function headRow() {
+    const row = made("tr");
+    for (const [, by] of HEADS) {
+        const cell = made("th", "", {scope: "col", "data-by": by});
+        if (by !== null) {
+            const button = made("button", "", {type: "button", class: "plain"});
+            button.addEventListener("click", () => sortBy(by));
+            cell.append(button);
+        }
+        row.append(cell);
+    }
+    return row;
+}
+
+function sortBy(by) {
+    const {sort} = store.value.view;
+    store.act("looked", {sort: sort.by !== by ? {by, isDown: false} : sort.isDown ? {by: null, isDown: false} : {by, isDown: true}});
+}
+
+/** Shows the table of a value. */
+export function showTrades(value) {
+    const {document, view, ranges, selection} = value;
+    if (shownOf !== null && ["document", "view", "ranges", "selection"].every((name) => shownOf[name] === value[name])) return;
+    const isMoved = shownOf?.selection !== selection && selection !== null;
+    shownOf = {document, view, ranges, selection};
+    const network = networkOf(document);
+    rows = sorted(rowsOf(network, value), view.sort);
+    showHeads(network, value);
+    part("trades").setAttribute("aria-rowcount", rows.length + 1);
+    fillFirms(network, view);
+    if (part("filter").value.trim() !== view.filter) part("filter").value = view.filter;
+    fill(value);
+    if (isMoved) bringIn(value);
+}
+
+function showHeads(network, {view, ranges}) {
+    const {cells} = part("trades").tHead.rows[0], isSigned = view.mode === "sign", {over} = outcomeOf(network);
+    for (const cell of cells) cell.setAttribute("aria-sort", orderOf(cell.dataset.by, view.sort));
+    HEADS.forEach(([head], k) => ((cells[k].firstElementChild ?? cells[k]).textContent = say(head)));
+    if (isSigned) cells[3].firstElementChild.textContent = say("head.signed");
+    if (isSigned && over !== 1n) cells[4].firstElementChild.textContent = say("head.price_over", {over});
+    cells[5].hidden = rangesOf({view, ranges}).length === 0;
+}
+
+/** The ranges that stand beside the prices of a guess, where they are looked at. */
+function rangesOf({view, ranges}) {
+    return view.hasRanges && view.mode === "guess" ? ranges?.said?.ranges ?? [] : [];
+}
+
+function orderOf(column, {by, isDown}) {
+    if (by === null || column !== by) return "none";
+    return isDown ? "descending" : "ascending";
+}
+
+function rowsOf(network, value) {
+    const {on, prices} = termsOf(value), {filter, firm} = value.view;
+    const all = network.trades.map((trade, place) => ({...trade, place, on: on.has(trade.name), price: prices.get(trade.name)}));
+    return all.filter(({name, seller, buyer}) => (firm === null || seller === firm || buyer === firm)
+        && (filter === "" || `${name} ${seller} ${buyer}`.toLowerCase().includes(filter.toLowerCase())));
+}
+
+function sorted(all, {by, isDown}) {
+    if (by === null) return all;
+    const order = (one, other) => (typeof one === "bigint" && typeof other === "bigint" ? (one < other ? -1 : one > other ? 1 : 0)
+        : String(one ?? "").localeCompare(String(other ?? ""), "en", {numeric: true}));
+    return all.sort((one, other) => (isDown ? -1 : 1) * order(one[by], other[by]) || one.place - other.place);
+}
+
+function fillFirms(network, view) {
+    const names = network.firms.map(({name}) => name).filter((name) => name !== ""), select = part("by-firm");
+    const all = say("page.all_firms"), key = JSON.stringify([all, names]);
+    if (select.dataset.names !== key) {
+        select.replaceChildren(new Option(all, ""), ...names.map((name) => new Option(name, name)));
+        select.dataset.names = key;
+    }
+    select.value = view.firm ?? "";
+}
+
+/** Puts the rows there that are in sight, between two that stand for all others. */
+function fill(value) {
+    const scroll = part("trades-scroll"), body = part("trades").tBodies[0];
+    const isAll = rows.length <= MOST_ROWS, many = Math.ceil((scroll.clientHeight || 600) / HIGH) + 2 * AROUND;
+    const first = isAll ? 0 : Math.max(0, Math.min(rows.length - many, Math.floor(scroll.scrollTop / HIGH) - AROUND));
+    const seen = isAll ? rows : rows.slice(first, first + many);
+    const scale = scaleOf(value), bounds = new Map(rangesOf(value).map((range) => [range.trade, range]));
+    const isOldRange = isOld(value, value.ranges);
+    const next = new Map(seen.map((row) => [row.name, present.get(row.name) ?? rowFor(row.name)]));
+    seen.forEach((row, k) => update(next.get(row.name), row, first + k, value, {scale, range: bounds.get(row.name), isOldRange}));
+    present = next;
+    const wanted = [...(isAll ? [] : [gap(first)]), ...next.values(), ...(isAll ? [] : [gap(rows.length - first - seen.length)])];
+    const isSame = body.children.length === wanted.length && wanted.every((row, k) => body.children[k] === row);
+    if (!isSame) replaced(body, wanted);
+}
+
+/** Replaces rows, and keeps the focus in a row that stays. */
+function replaced(body, wanted) {
+    const focused = body.contains(document.activeElement) ? document.activeElement : null;
+    body.replaceChildren(...wanted);
+    if (focused?.isConnected) focused.focus({preventScroll: true});
+}
+
+function gap(count) {
+    const row = made("tr", "", {"aria-hidden": "true", class: "gap"}), cell = made("td", "", {colspan: 6});
+    cell.style.height = `${count * HIGH}px`;
+    row.append(cell);
+    return row;
+}
+
+const FIELD = {type: "text", inputmode: "numeric", size: 6, autocomplete: "off"};
+
+/** A row with its button and field, which outlives changes. */
+function rowFor(name) {
+    const row = made("tr", "", {"data-trade": name});
+    const on = made("input", "", {type: "checkbox", "data-key": `on:${name}`});
+    const price = made("input", "", {...FIELD, "data-key": `price:${name}`});
+    on.addEventListener("change", () => turn(store, name, on.checked));
+    price.addEventListener("input", () => typed(name, price));
+    price.addEventListener("blur", () => shownPrice(price));
+    price.addEventListener("focus", () => chosen(name));
+    price.addEventListener("keydown", (event) => stepped(event, name, price));
+    const head = made("th", name, {scope: "row"});
+    const cells = [null, null, null, "number", "bounds"].map((kind) => made("td", "", {class: kind}));
+    cells[2].append(on);
+    cells[3].append(price);
+    row.append(head, ...cells);
+    return row;
+}
+
+/** Marks the trade of a field in the network, without moving the focus. */
+function chosen(name) {
+    const key = laneKey(networkOf(store.value.document).trade(name));
+    if (store.value.selection?.key !== key) store.act("selected", {kind: "lane", key, trade: name});
+}
+
+function typed(name, price) {
+    const isWhole = WHOLE.test(price.value.trim());
+    price.setAttribute("aria-invalid", `${!isWhole}`);
+    if (isWhole) setPrice(store, name, price.value.trim(), `price of ${name}`);
+}
+
+function stepped(event, name, price) {
+    const step = {ArrowUp: 1n, ArrowDown: -1n}[event.key];
+    if (step === undefined || !WHOLE.test(price.value.trim())) return;
+    event.preventDefault();
+    price.value = String(BigInt(price.value.trim()) + step);
+    setPrice(store, name, price.value);
+}
+
+function shownPrice(price) {
+    price.value = price.dataset.price;
+    price.setAttribute("aria-invalid", "false");
+}
+
+/** Whether a row is of the lane or bound that is chosen. */
+function isChosen({name, seller, buyer}, selection) {
+    return selection?.kind === "lane" ? selection.key === laneKey({seller, buyer}) : selection?.trade === name;
+}
+
+function update(element, row, place, value, {scale, range, isOldRange}) {
+    const [head, from, to, on, price, bounds] = element.cells, box = on.firstElementChild, field = price.firstElementChild;
+    element.setAttribute("aria-rowindex", place + 2);
+    element.className = `${row.on ? "on" : ""}${isChosen(row, value.selection) ? " chosen" : ""}`.trim();
+    if (from.textContent !== row.seller) from.textContent = row.seller;
+    if (to.textContent !== row.buyer) to.textContent = row.buyer;
+    if (head.textContent !== row.name) head.textContent = row.name;
+    box.checked = row.on;
+    box.setAttribute("aria-label", say(value.view.mode === "sign" ? "stage.name_signed" : "stage.name_on",
+        {name: row.name}));
+    field.setAttribute("aria-label", say("stage.price_of", {name: row.name}));
+    const shown = row.price === undefined ? "" : String(row.price);
+    field.dataset.price = shown;
+    const isTyped = field === document.activeElement && field.value.trim() === shown;
+    if (!isTyped && (field !== document.activeElement || WHOLE.test(field.value.trim()))) field.value = shown;
+    bounds.hidden = !range;
+    const choose = (side) => store.act("selected", {kind: "bound", trade: row.name, side});
+    boundsAt(bounds, {range, price: row.price, scale, isOld: isOldRange, selection: value.selection, choose});
+    field.classList.toggle("beyond", range !== undefined && !isOldRange && typeof row.price === "bigint" && !isWithin(range, row.price));
+}
+
+/** Scrolls the first chosen row into sight, but not away from a field that somebody types in. */
+function bringIn({selection}) {
+    const place = rows.findIndex((row) => isChosen(row, selection));
+    const scroll = part("trades-scroll");
+    if (place < 0 || scroll.contains(document.activeElement)) return;
+    const top = place * HIGH;
+    if (top < scroll.scrollTop || top > scroll.scrollTop + scroll.clientHeight - 2 * HIGH) scroll.scrollTop = top - scroll.clientHeight / 3;
+}
+
+/** Goes to the field of a trade's price, with a first letter in it. */
+export function typePrice(trade, letter) {
+    fill(store.value);
+    const field = present.get(trade)?.cells[4].firstElementChild;
+    if (!field) return;
+    field.focus();
+    field.value = letter;
+    field.setSelectionRange(1, 1);
+    typed(trade, field);
+}

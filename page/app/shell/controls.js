@@ -1,0 +1,220 @@
+// What a user does with buttons, fields, keys and files, as actions.
+import {say} from "../../words/say.js";
+import {EMPTY} from "../document/building.js";
+import {goTo, refreshEditor} from "../document/editor.js";
+import {laidOut} from "../document/lines.js";
+import {faulty, isOld} from "../document/state.js";
+import {arrange} from "../document/terms.js";
+import {bindBegun, sayBegun} from "../exercise/begun.js";
+import {bindLesson} from "../exercise/lesson.js";
+import {sortedOut} from "../exercise/results.js";
+import {objectors} from "../network/firms.js";
+import {zoomIn, zoomOut} from "../network/scene.js";
+import {COMMANDS} from "../program/commands.js";
+import {saveAnswer, saveDocument, saveFirms, savePicture, saveRanges} from "../sharing/exports.js";
+import {bindLinks} from "../sharing/links.js";
+import {bindReasons, claim} from "../told/reasons.js";
+import {forget, forgetAll, keep, kept} from "./keep.js";
+import {on, part} from "./page.js";
+
+/** The document of last time, or null. */
+let last = null;
+
+/** The actions that change the document. */
+const CHANGES = ["opened", "typed", "edited", "undone", "redone", "resumed", "left"];
+
+/** Binds everything. `documents` are the examples in groups; `run` asks and ends the command. */
+export function bind(store, documents, run) {
+    bindDocument(store, documents);
+    bindHistory(store);
+    bindNotices(store);
+    bindScene(store);
+    bindGuess(store, run);
+    bindReasons(store);
+    bindTabs(store);
+    bindCommand(store, run);
+    bindLinks(store);
+    bindLesson(store, documents[0][1][0]);
+    bindBegun(store, CHANGES);
+    bindKept(store);
+}
+
+/** Opens files: of documents the last one, and all results. */
+async function open(store, list) {
+    const {results, files} = await sortedOut(list);
+    if (files.length > 0) store.act("opened", files[files.length - 1].name, files[files.length - 1].bytes);
+    if (results.length > 0) store.act("resulted", results);
+}
+
+function bindDocument(store, documents) {
+    const texts = new Map();
+    for (const [group, members] of documents) {
+        const options = document.createElement("optgroup");
+        options.dataset.group = group;
+        for (const [name, text] of members) {
+            texts.set(name, text);
+            options.append(new Option(name.replace(/\.json$/, ""), name));
+        }
+        part("examples").append(options);
+    }
+    part("examples").addEventListener("change", () => {
+        const name = part("examples").value;
+        if (name !== "" && store.value.document.exercise === null) store.act("opened", name, new TextEncoder().encode(texts.get(name)));
+        part("examples").value = "";
+    });
+    part("file").addEventListener("change", () => open(store, [...part("file").files]).finally(() => (part("file").value = "")));
+    part("text").addEventListener("input", () => store.act("typed", part("text").value));
+    part("drop").addEventListener("dragover", (event) => event.preventDefault());
+    part("drop").addEventListener("drop", (event) => {
+        event.preventDefault();
+        open(store, [...event.dataTransfer.files]);
+    });
+    on("new", () => {
+        store.act("opened", "new.json", new TextEncoder().encode(EMPTY));
+        store.act("went", "build");
+    });
+    on("save", () => saveDocument(store.value));
+    on("lay-out", () => store.act("typed", laidOut(store.value.document.text)));
+    on("fault-go", () => goTo(faulty(store.value).mark));
+}
+
+/** One history, also while somebody types in a field of a price. */
+function bindHistory(store) {
+    on("undo", () => store.act("undone"));
+    on("redo", () => store.act("redone"));
+    document.addEventListener("keydown", (event) => {
+        if (!(event.ctrlKey || event.metaKey) || event.altKey || event.defaultPrevented) return;
+        const key = event.key.toLowerCase(), isOwn = event.target.closest?.("#filter, #words, #fragment, #address, #pupil, #maker-title, #text, .CodeMirror");
+        if (isOwn || !["z", "y"].includes(key)) return;
+        event.preventDefault();
+        store.act(key === "y" || event.shiftKey ? "redone" : "undone");
+    });
+}
+
+/** What was said of a text, or made of it, goes with the text. */
+function bindNotices(store) {
+    store.watch((_, name) => {
+        if (!CHANGES.includes(name)) return;
+        part("linked").hidden = true;
+        for (const id of ["maker-says", "denominator-says"]) part(id).textContent = "";
+        part("denominator").setAttribute("aria-invalid", "false");
+        if (["opened", "left"].includes(name)) for (const id of ["maker", "notice"]) part(id).hidden = true;
+    });
+}
+
+function bindScene(store) {
+    on("zoom-in", () => store.act("looked", zoomIn(store.value.view)));
+    on("zoom-out", () => store.act("looked", zoomOut(store.value.view)));
+    on("zoom-fit", () => store.act("looked", {window: null}));
+    on("wide", () => store.act("looked", {isWide: part("wide").getAttribute("aria-pressed") !== "true"}));
+    on("picture-save", () => savePicture(store.value));
+    on("objects", () => stepObjectors(store));
+    part("firms").addEventListener("click", ({target}) => {
+        const name = target.closest("[data-firm]")?.dataset.firm;
+        if (name !== undefined) store.act("selected", {kind: "firm", name});
+    });
+}
+
+/** Goes to the next of the firms that aren't content. */
+function stepObjectors(store) {
+    const list = objectors(store.value), {selection} = store.value;
+    if (list.length === 0) return;
+    const now = selection?.kind === "firm" ? list.indexOf(selection.name) : -1;
+    store.act("selected", {kind: "firm", name: list[(now + 1) % list.length]});
+}
+
+function bindGuess(store, {ask}) {
+    on("solve", async () => {
+        store.act("chosen", ["solve"]);
+        part("command").value = "solve";
+        part("words").hidden = true;
+        await ask();
+        const {answer} = store.value;
+        if (answer?.said?.fault === 16n && !isOld(store.value, answer)) store.act("looked", {hasReason: true, step: 0});
+    });
+    on("ranges", () => store.act("looked", {hasRanges: !store.value.view.hasRanges}));
+    on("buyers-best", () => take(store, "low"));
+    on("sellers-best", () => take(store, "high"));
+    on("over-take", () => {
+        const {on: names, prices} = store.value.answer.said;
+        arrange(store, names, prices);
+    });
+    on("over-claim", () => claim(store, store.value.answer));
+    on("over-leave", () => store.act("looked", {isOver: false}));
+    on("firms-csv", () => saveFirms(store.value));
+    on("ranges-csv", () => saveRanges(store.value));
+}
+
+/** Takes all lowest or all highest prices as the guess. */
+function take(store, side) {
+    const {ranges} = store.value;
+    if (!isOld(store.value, ranges)) arrange(store, ranges.said.on, ranges.said.ranges.map((range) => [range.trade, range[side]]));
+}
+
+function bindTabs(store) {
+    const all = [...part("tabs").children], nameOf = (tab) => tab.id.slice("tab-".length);
+    const go = (tab) => {
+        store.act("went", nameOf(tab));
+        if (nameOf(tab) === "document") refreshEditor();
+    };
+    for (const tab of all) tab.addEventListener("click", () => go(tab));
+    part("tabs").addEventListener("keydown", (event) => {
+        const step = {ArrowRight: 1, ArrowLeft: -1}[event.key], tabs = all.filter((tab) => tab.offsetParent !== null);
+        if (step === undefined) return;
+        const next = tabs[(tabs.indexOf(event.target) + step + tabs.length) % tabs.length];
+        go(next);
+        next.focus();
+    });
+}
+
+function bindCommand(store, {ask, end}) {
+    const options = [...COMMANDS, ["", "command.other"]].map(([words]) => new Option(words, words));
+    part("command").append(...options);
+    part("sources").textContent = document.documentElement.dataset.sources;
+    const choose = () => {
+        const chosen = part("command").value, isOther = chosen === "";
+        part("words").hidden = !isOther;
+        store.act("chosen", (isOther ? part("words").value : chosen).split(/\s+/).filter(Boolean));
+    };
+    for (const id of ["command", "words"]) part(id).addEventListener("input", () => {
+        end();
+        choose();
+    });
+    part("form").addEventListener("submit", (event) => {
+        event.preventDefault();
+        store.act("went", "answer");
+        ask();
+    });
+    part("end").addEventListener("click", () => {
+        end();
+        store.act("ended");
+    });
+    store.watch(({run}, name) => run.state === "none" && CHANGES.includes(name) && end());
+    on("answer-save", () => saveAnswer(store.value));
+    on("answer-claim", () => claim(store, store.value.answer));
+}
+
+/** Asks about the document of last time, and keeps the present one from its first change on. */
+function bindKept(store) {
+    last = kept();
+    part("kept").hidden = last === null;
+    on("kept-open", () => {
+        part("kept").hidden = true;
+        store.act("opened", last.name, new TextEncoder().encode(last.text));
+    });
+    for (const [id, act] of [["kept-forget", forget], ["forget", forgetAll]]) on(id, () => {
+        part("kept").hidden = true;
+        act();
+    });
+    store.watch(({document: now, past}, name) => CHANGES.includes(name) && past.length > 0 && now.exercise === null && keep(now));
+}
+
+/** Says what is chosen from, and what was kept, in the language that is spoken. */
+export function sayControls() {
+    [...COMMANDS, ["", "command.other"]].forEach(([words, key], k) => {
+        part("command").options[k].textContent = words === "" ? say(key) : `${words}: ${say(key)}`;
+    });
+    for (const group of part("examples").querySelectorAll("optgroup")) group.label = say(group.dataset.group);
+    sayBegun();
+    part("kept-says").textContent = last === null ? "" : say("page.kept", {name: last.name});
+}

@@ -1,0 +1,61 @@
+// What a user does with reasons, contracts and claims, as actions.
+import {say} from "../../words/say.js";
+import {claimedAs, claimOf} from "../document/claims.js";
+import {goTo, refreshEditor} from "../document/editor.js";
+import {isOld, networkOf} from "../document/state.js";
+import {arrange, countOver, signGuess, termsOf} from "../document/terms.js";
+import {on, part} from "../shell/page.js";
+import {reasonOf, stepOf} from "./story.js";
+
+/** Binds all that. */
+export function bindReasons(store) {
+    bindStory(store);
+    bindSigning(store);
+    bindClaims(store);
+}
+
+/** A reason is looked at or not, as ranges are; its story is stepped through above the network or gone to in its list. */
+function bindStory(store) {
+    const go = (step) => {
+        if (store.value.selection !== null) store.act("selected", null);
+        store.act("looked", {step});
+    };
+    on("wonder", () => store.act("looked", {hasReason: !store.value.view.hasReason, isOver: false, step: 0}));
+    on("story-back", () => go(stepOf(store.value).place - 1));
+    on("story-next", () => go(stepOf(store.value).place + 1));
+    part("reason-lines").addEventListener("click", ({target}) => {
+        const step = target.closest("[data-step]")?.dataset.step;
+        if (step !== undefined) go(Number(step));
+    });
+    on("reason-close", () => store.act("looked", {hasReason: false}));
+    on("reason-take", () => {
+        arrange(store, [...termsOf(store.value).on], reasonOf(store.value).said.prices);
+        store.act("went", "guess");
+    });
+}
+
+function bindSigning(store) {
+    on("sign-guess", () => signGuess(store));
+    part("denominator").addEventListener("change", () => {
+        const text = part("denominator").value.trim(), isOne = /^([1-9]\d?|100)$/.test(text);
+        const isCounted = isOne && countOver(store, BigInt(text));
+        part("denominator").setAttribute("aria-invalid", `${!isCounted}`);
+        part("denominator-says").textContent = isCounted ? "" : say(isOne ? "sign.not_whole" : "sign.denominators");
+    });
+}
+
+/** Puts an answer into the document as its claim, where it is one to the present document, and shows what is decided. */
+export function claim(store, told) {
+    if (!told?.said || isOld(store.value, told)) return;
+    store.act("edited", claimedAs(networkOf(store.value.document), told.said));
+    store.act("went", "claim");
+}
+
+function bindClaims(store) {
+    on("reason-claim", () => claim(store, reasonOf(store.value)));
+    on("claim-go", () => {
+        store.act("went", "document");
+        refreshEditor();
+        goTo(claimOf(networkOf(store.value.document)));
+    });
+}

@@ -1,0 +1,115 @@
+// What if: firms that leave and join, trades that come and go, before and after side by side, and what each contributes.
+import {editsBetween, editsTo, isIn} from "../../read/states.js";
+import {beforeLine, firmStates, gainOf, partOf, sharesLine, startLine, tradeStates} from "../../say/whatif.js";
+import {say} from "../../words/say.js";
+import {goTo, refreshEditor} from "../document/editor.js";
+import {memberAs} from "../document/edits.js";
+import {networkOf} from "../document/state.js";
+import {keepingFocus, made, on, part} from "../shell/page.js";
+import {areOthers, isAsked, isHidden, isOther, suppose} from "./suppose.js";
+
+const FIRM_HEADS = ["head.firm", "head.before", "head.after", "head.change", "head.contributes"];
+const TRADE_HEADS = ["head.trade", "head.before", "head.after", null, "head.contributes"];
+
+/** Binds what a user does in the view. */
+export function bindWhatIf(store) {
+    part("panel-whatif").addEventListener("change", ({target}) => {
+        const {does, name} = target.dataset;
+        if (does !== undefined) suppose(store, [[does, name]], !target.checked);
+    });
+    on("whatif-on", () => store.act("supposed", store.value.supposed.after, store.value.supposed.after));
+    on("whatif-all", () => store.act("supposed", [], []));
+    on("whatif-put", () => putIn(store));
+}
+
+/** Makes what is supposed the edits of the document, and shows them there. */
+function putIn(store) {
+    const {document, compared: {before, after}} = store.value, text = JSON.stringify(editsTo(before, after));
+    store.act("edited", memberAs(networkOf(document), "edits", text));
+    store.act("went", "document");
+    refreshEditor();
+    goTo(networkOf(store.value.document).root.value.get("edits"));
+}
+
+let shown = null;
+
+/** Shows the view of a value. */
+export function showWhatIf(value) {
+    document.documentElement.dataset.whatif = stateOf(value);
+    part("tab-whatif").hidden = isHidden(value);
+    const {compared, contributed, supposed} = value, isThere = isAsked(value) && Boolean(compared?.states);
+    part("whatif-there").hidden = !isThere;
+    part("whatif-there").classList.toggle("old", isOther(value));
+    if (!isThere) return;
+    able("whatif-on", editsBetween(supposed.before, supposed.after).length > 0);
+    able("whatif-all", supposed.before.length + supposed.after.length > 0);
+    able("whatif-put", !isOther(value));
+    const now = {compared, contributed, supposed};
+    if (shown !== null && Object.keys(now).every((name) => shown[name] === now[name])) return;
+    shown = now;
+    fill(compared, supposed, areOthers(value) ? null : contributed.found ?? null);
+}
+
+function stateOf(value) {
+    const {compared: said} = value;
+    if (!isAsked(value)) return "none";
+    if (isOther(value) || areOthers(value)) return "asking";
+    return said.trouble ? "trouble" : said.states === null ? "fault" : "answered";
+}
+
+function able(id, isAble) {
+    part(id).setAttribute("aria-disabled", `${!isAble}`);
+}
+
+function fill(said, supposed, found) {
+    const network = networkOf(said.document),
+        lines = [beforeLine(said), startLine(said), found && sharesLine(said), say("whatif.depend")];
+    part("whatif-lines").replaceChildren(...lines.filter(Boolean).map((line) => made("p", line)));
+    table("whatif-firms", FIRM_HEADS, network.firms.map(({name}) => firmRow(said, name, supposed, found)));
+    table("whatif-trades", TRADE_HEADS, network.trades.map((trade) => tradeRow(said, trade, supposed, found)));
+}
+
+function table(id, heads, rows) {
+    const {tHead, tBodies: [body]} = part(id);
+    tHead.replaceChildren(rowOf(heads.map((head) => made("th", head === null ? "" : say(head), {scope: "col"}))));
+    keepingFocus(part(id), () => body.replaceChildren(...rows));
+}
+
+function rowOf(cells, attributes = {}) {
+    const row = made("tr", "", attributes);
+    row.append(...cells);
+    return row;
+}
+
+/** The name of a firm or trade, with a box that says whether it is there after the change. */
+function headOf([does, name], says, {after}) {
+    const head = made("th", "", {scope: "row"}), label = made("label", "", {class: "box"});
+    const names = {"data-does": does, "data-name": name, "data-key": `${does}:${name}`, "aria-label": says};
+    const box = made("input", "", {type: "checkbox", ...names});
+    box.checked = !isIn(after, [does, name]);
+    label.append(box, name);
+    head.append(label);
+    return head;
+}
+
+function numbers(texts) {
+    return texts.map((text) => made("td", String(text ?? ""), {class: "number"}));
+}
+
+function firmRow(said, name, supposed, found) {
+    const change = gainOf(said, name), signed = change > 0n ? `+${change}` : change, edit = ["leave", name];
+    const cells = numbers([...firmStates(said, name), signed, found?.firms.get(name)]);
+    const attributes = {"data-firm": name, class: isIn(supposed.after, edit) ? "away" : null};
+    return rowOf([headOf(edit, say("whatif.is_there", {name}), supposed), ...cells], attributes);
+}
+
+const PLAYS = {stays: "stays", comes: "comes", goes: "goes", gone: "goes"};
+const SAYS = {stays: "role.stays", comes: "role.comes", goes: "role.goes"};
+
+function tradeRow(said, {name, seller, buyer}, supposed, found) {
+    const played = partOf(said, name), plays = PLAYS[played] ?? "";
+    const head = headOf(["bar", name], say("whatif.is_admitted", {name, seller, buyer}), supposed);
+    const cells = [...tradeStates(said, name), plays === "" ? "" : say(SAYS[plays])].map((text) => made("td", text));
+    const attributes = {"data-trade": name, class: plays || played};
+    return rowOf([head, ...cells, ...numbers([found?.trades.get(name)])], attributes);
+}
