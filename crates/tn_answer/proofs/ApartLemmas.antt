@@ -7,33 +7,33 @@ use Rattle.serde_json.specs.Data.{Data, null, boolean, number, string, array, ob
 use Rattle.serde_json.specs.View.{items_of}
 use Rattle.serde_json.specs.Events.{items_len}
 use Rattle.serde_json.specs.Find.{as_integer, as_u64, as_str, as_number, as_array, at, get}
-use Rattle.tn_base.specs.declared.fault.FaultKind.{FaultKind}
-use Rattle.tn_base.specs.declared.fault.FaultKind.TheVariants.{NotJson, TooLong, Shape, BadName, SameName, UnknownFirm, SelfTrade, UnknownTrade, Limit, AmountRange, NotOwnTrade, SameBundle, NoEmpty, NotLaminar, NotConcave, SameTrade, PriceMissing, BadOver, SamePair}
-use Rattle.tn_base.specs.declared.fault.FaultKind.TheVariants.{ExchangeFails as FailsExchange}
-use Rattle.tn_base.specs.Faults.{fault_number}
-use Rattle.tn_plain_data.specs.declared.place.PlaceStep.{PlaceStep}
-use Rattle.tn_plain_data.specs.declared.place.PlaceStep.TheVariants.{Key, Index, Trade}
-use Rattle.tn_plain_data.specs.declared.place.Word.{Word}
-use Rattle.tn_plain_data.specs.declared.place.Word.TheVariants.{Version, Firms, Trades, Arrangement, Outcome, Claim, Note, Edits, Name, Seller, Buyer, Kind, Rows, Amounts, Sets, From, Values, Costs, Gains, Keep, Pairs, On, Prices, Over, Contracts, Answer, Surplus as SurplusWord, Firm, Bundle, Gain, X, Y, At, Nodes, Cost, Keeps, Plan}
-use Rattle.tn_plain_data.specs.declared.reason.Reason.{Reason}
-use Rattle.tn_plain_data.specs.declared.reason.Reason.TheVariants.{Impossible as ImpossibleIs, Better as BetterIs, Possible, Surplus as SurplusIs, Gain as GainIs, Exchange, Holds, Arc, Cost as CostIs, Contract as ContractIs, Over as OverIs, Price, Empty, Signed, Choice, Shares, Balance, Whole}
-use Rattle.tn_plain_data.specs.declared.said.Fault.{Fault}
-use Rattle.tn_plain_data.specs.declared.said.Shown.{Shown}
-use Rattle.tn_plain_data.specs.declared.contract.Contract.{Contract}
-use Rattle.tn_plain_data.specs.declared.holding.Holding.{Holding}
-use Rattle.tn_plain_data.specs.declared.range.Range.{Range}
-use Rattle.tn_plain_data.specs.declared.session.State.{State}
-use Rattle.tn_plain_data.specs.declared.said.Page.{Page}
-use Rattle.tn_plain_data.specs.declared.said.Page.TheVariants.{Help, Version as VersionPage, About}
-use Rattle.tn_plain_data.specs.declared.said.Topic.TheVariants.{Check as CheckTopic, Firms as FirmsTopic, Test as TestTopic, Support as SupportTopic, Solve as SolveTopic, Range as RangeTopic, Session as SessionTopic, Judge as JudgeTopic, Replay as ReplayTopic, Drill as DrillTopic, Cases as CasesTopic}
-use Rattle.tn_plain_data.specs.declared.said.Said.{Said}
-use Rattle.tn_plain_data.specs.declared.said.Said.TheVariants.{Usage, ReadFault, NoMemory, Fault as FaultIs, Equilibrium, Better, Impossible, Accepted, ExchangeFails, Supported, Cycle, Solved, Drill, Ranges, Session, Drops, Completes, Blocks, Valid, Invalid, Cases, Page as PageIs, Firms as FirmsIs}
+use Rattle.tn_said.specs.declared.fault.FaultKind.{FaultKind}
+use Rattle.tn_said.specs.declared.fault.FaultKind.TheVariants.{NotJson, TooLong, Shape, BadName, SameName, UnknownFirm, SelfTrade, UnknownTrade, Limit, AmountRange, NotOwnTrade, SameBundle, NoEmpty, NotLaminar, NotConcave, SameTrade, PriceMissing, BadOver, SamePair}
+use Rattle.tn_said.specs.declared.fault.FaultKind.TheVariants.{ExchangeFails as FailsExchange}
+use Rattle.tn_said.specs.Faults.{fault_number}
+use Rattle.tn_said.specs.declared.place.PlaceStep.{PlaceStep}
+use Rattle.tn_said.specs.declared.place.PlaceStep.TheVariants.{Key, Index, Trade}
+use Rattle.tn_said.specs.declared.place.Word.{Word}
+use Rattle.tn_said.specs.declared.place.Word.TheVariants.{Version, Firms, Trades, Arrangement, Outcome, Claim, Note, Edits, Name, Seller, Buyer, Kind, Rows, Amounts, Sets, From, Values, Costs, Gains, Keep, Pairs, On, Prices, Over, Contracts, Answer, Surplus as SurplusWord, Firm, Bundle, Gain, X, Y, At, Nodes, Cost, Keeps, Plan}
+use Rattle.tn_said.specs.declared.reason.Reason.{Reason}
+use Rattle.tn_said.specs.declared.reason.Reason.TheVariants.{Impossible as ImpossibleIs, Better as BetterIs, Possible, Surplus as SurplusIs, Gain as GainIs, Exchange, Holds, Arc, Cost as CostIs, Contract as ContractIs, Over as OverIs, Price, Empty, Signed, Choice, Shares, Balance, Whole}
+use Rattle.tn_said.specs.declared.said.Fault.{Fault}
+use Rattle.tn_said.specs.declared.said.Shown.{Shown}
+use Rattle.tn_model.specs.declared.contract.Contract.{Contract}
+use Rattle.tn_said.specs.declared.holding.Holding.{Holding}
+use Rattle.tn_model.specs.declared.range.Range.{Range}
+use Rattle.tn_said.specs.declared.session.State.{State}
+use Rattle.tn_said.specs.declared.said.Page.{Page}
+use Rattle.tn_said.specs.declared.said.Page.TheVariants.{Help, Version as VersionPage, About}
+use Rattle.tn_said.specs.declared.said.Topic.TheVariants.{Check as CheckTopic, Firms as FirmsTopic, Test as TestTopic, Support as SupportTopic, Solve as SolveTopic, Range as RangeTopic, Session as SessionTopic, Judge as JudgeTopic, Replay as ReplayTopic, Drill as DrillTopic, Cases as CasesTopic}
+use Rattle.tn_said.specs.declared.said.Said.{Said}
+use Rattle.tn_said.specs.declared.said.Said.TheVariants.{Usage, ReadFault, NoMemory, Fault as FaultIs, Equilibrium, Better, Impossible, Accepted, ExchangeFails, Supported, Cycle, Solved, Drill, Ranges, Session, Drops, Completes, Blocks, Valid, Invalid, Cases, Page as PageIs, Firms as FirmsIs}
 use Rattle.tn_names.specs.Names.{NameLists, IsNameList}
-use Rattle.tn_plain_data.specs.Words.{word_text}
+use Rattle.tn_said.specs.Words.{word_text}
 use Rattle.tn_names.specs.Named.{IsNamed, IsNamedStep, IsNamedTriple}
 use Rattle.tn_answer.specs.Pages.{lines_text, page_lines}
 use Rattle.tn_answer.specs.Rows.{each_from}
-use Rattle.tn_answer.specs.AnswerText.{contracts_data, holding_data, range_data, state_data, states_data, prices_from, nodes_data, step_data, place_data, fault_data, Form, json, lines, answer_form, table_of, text_of, data_in, form_text, answer, answer_data, answer_line}
+use Rattle.tn_answer.specs.AnswerText.{contracts_data, holding_data, range_data, state_data, states_data, prices_from, nodes_data, step_data, place_data, fault_data, Form, json, lines, answer_form, answer_table, text_of, data_in, form_text, answer, answer_data, answer_line}
 use Rattle.tn_answer.specs.Values.{bound_data, name_data, names_data, option_data, integer_data, numbers_data}
 use Rattle.tn_answer.specs.ReasonText.{reason_members, IsNamedReason}
 use Rattle.tn_answer.specs.Apart.{AnswersAreToldApart, HasNamedPaths, HasShortNumbers, IsNamedAnswer, IsNamedHolding, IsNamedState, IsSameFault, IsSameInRows, IsSameInWideRows, IsSameObject, IsSameStep}
@@ -703,7 +703,7 @@ module _ (names : NameLists) (firms : IsNameList names.firms) (trades : IsNameLi
   -- an answer without rows beside any other
   same_beside_rows : (first second : Said) → IsNamedAnswer names first → IsNamedAnswer names second
       → HasShortNumbers first → HasShortNumbers second
-      → form_text (answer_form names first) ≡ text_of (table_of names second AsRows) (answer_form names second)
+      → form_text (answer_form names first) ≡ text_of (answer_table names second AsRows) (answer_form names second)
       → IsSameObject names first second
   unfolding fields_text
   same_beside_rows first (Supported on prices ends) h k short short' e =
@@ -718,7 +718,7 @@ module _ (names : NameLists) (firms : IsNameList names.firms) (trades : IsNameLi
 
   same_beside_wide_rows : (first second : Said) → IsNamedAnswer names first → IsNamedAnswer names second
       → HasShortNumbers first → HasShortNumbers second
-      → form_text (answer_form names first) ≡ text_of (table_of names second AsWideRows) (answer_form names second)
+      → form_text (answer_form names first) ≡ text_of (answer_table names second AsWideRows) (answer_form names second)
       → IsSameObject names first second
   unfolding fields_text
   same_beside_wide_rows first (Solved on prices surplus ends) h k short short' e =
@@ -728,8 +728,8 @@ module _ (names : NameLists) (firms : IsNameList names.firms) (trades : IsNameLi
   -- heads of different tables differ in a byte
   same_in_rows : (first second : Said) → IsNamedAnswer names first → IsNamedAnswer names second → HasShortNumbers first
       → HasShortNumbers second
-      → text_of (table_of names first AsRows) (answer_form names first)
-      ≡ text_of (table_of names second AsRows) (answer_form names second) → IsSameInRows names first second
+      → text_of (answer_table names first AsRows) (answer_form names first)
+      ≡ text_of (answer_table names second AsRows) (answer_form names second) → IsSameInRows names first second
   unfolding fields_text
   same_in_rows (Supported on prices ends) (Supported on' prices' ends') h k short short' e =
       same_deals names firms trades on prices ends on' prices' ends' h.0 k.0 h.1 k.1 h.2 k.2 short short' e
@@ -775,8 +775,8 @@ module _ (names : NameLists) (firms : IsNameList names.firms) (trades : IsNameLi
 
   same_in_wide_rows : (first second : Said) → IsNamedAnswer names first → IsNamedAnswer names second
       → HasShortNumbers first → HasShortNumbers second
-      → text_of (table_of names first AsWideRows) (answer_form names first)
-      ≡ text_of (table_of names second AsWideRows) (answer_form names second) → IsSameInWideRows names first second
+      → text_of (answer_table names first AsWideRows) (answer_form names first)
+      ≡ text_of (answer_table names second AsWideRows) (answer_form names second) → IsSameInWideRows names first second
   same_in_wide_rows (Solved on prices surplus ends) (Solved on' prices' surplus' ends') h k short short' e =
       same_deals names firms trades on prices ends on' prices' ends' h.0 k.0 h.1 k.1 h.2 k.2 short.0 short'.0 e
   same_in_wide_rows (Solved on prices surplus ends) second h k short short' e =

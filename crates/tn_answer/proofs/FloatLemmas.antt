@@ -4,18 +4,18 @@ use Rattle.serde_json.specs.Find.{is_float, of_integer}
 use Rattle.serde_json.specs.Written.{has_float}
 use Rattle.serde_json.specs.Data.{array}
 use Rattle.serde_json.specs.View.{items_of}
-use Rattle.tn_plain_data.specs.declared.place.PlaceStep.{PlaceStep}
-use Rattle.tn_plain_data.specs.declared.place.PlaceStep.TheVariants.{Key, Index, Trade}
-use Rattle.tn_plain_data.specs.declared.reason.Reason.{Reason}
-use Rattle.tn_plain_data.specs.declared.reason.Reason.TheVariants.{Better as BetterIs, Surplus, Gain, Exchange, Cost, Over, Whole}
-use Rattle.tn_plain_data.specs.declared.said.Fault.{Fault}
-use Rattle.tn_plain_data.specs.declared.said.Shown.{Shown}
-use Rattle.tn_plain_data.specs.declared.contract.Contract.{Contract}
-use Rattle.tn_plain_data.specs.declared.holding.Holding.{Holding}
-use Rattle.tn_plain_data.specs.declared.range.Range.{Range}
-use Rattle.tn_plain_data.specs.declared.session.State.{State}
-use Rattle.tn_plain_data.specs.declared.said.Said.{Said}
-use Rattle.tn_plain_data.specs.declared.said.Said.TheVariants.{Usage, ReadFault, NoMemory, Fault as FaultIs, Equilibrium, Better, Impossible, Accepted, ExchangeFails, Supported, Cycle, Solved, Drill, Ranges, Session, Drops, Completes, Blocks, Valid, Invalid, Cases, Page as PageIs, Firms}
+use Rattle.tn_said.specs.declared.place.PlaceStep.{PlaceStep}
+use Rattle.tn_said.specs.declared.place.PlaceStep.TheVariants.{Key, Index, Trade}
+use Rattle.tn_said.specs.declared.reason.Reason.{Reason}
+use Rattle.tn_said.specs.declared.reason.Reason.TheVariants.{Better as BetterIs, Surplus, Gain, Exchange, Cost, Over, Whole}
+use Rattle.tn_said.specs.declared.said.Fault.{Fault}
+use Rattle.tn_said.specs.declared.said.Shown.{Shown}
+use Rattle.tn_model.specs.declared.contract.Contract.{Contract}
+use Rattle.tn_said.specs.declared.holding.Holding.{Holding}
+use Rattle.tn_model.specs.declared.range.Range.{Range}
+use Rattle.tn_said.specs.declared.session.State.{State}
+use Rattle.tn_said.specs.declared.said.Said.{Said}
+use Rattle.tn_said.specs.declared.said.Said.TheVariants.{Usage, ReadFault, NoMemory, Fault as FaultIs, Equilibrium, Better, Impossible, Accepted, ExchangeFails, Supported, Cycle, Solved, Drill, Ranges, Session, Drops, Completes, Blocks, Valid, Invalid, Cases, Page as PageIs, Firms}
 use Rattle.tn_answer.specs.AnswerText.{prices_from, nodes_data, step_data, place_data, fault_data, contracts_data, range_data, states_data, holding_data, answer, answer_data}
 use Rattle.tn_answer.specs.ReasonText.{reason_members}
 use Rattle.tn_answer.specs.Values.{names_data, option_data, bound_data, numbers_data}

@@ -5,20 +5,20 @@ use Rattle.std.proofs.lemmas.Int.{ints}
 use Rattle.std.specs.List.{list_all}
 use Rattle.serde_json.specs.Data.{array, object, member, no_members}
 use Rattle.serde_json.specs.View.{items_of}
-use Rattle.tn_plain_data.specs.declared.place.PlaceStep.{PlaceStep}
-use Rattle.tn_plain_data.specs.declared.place.PlaceStep.TheVariants.{Key, Index, Trade}
-use Rattle.tn_plain_data.specs.declared.reason.Reason.{Reason}
-use Rattle.tn_plain_data.specs.declared.reason.Reason.TheVariants.{Impossible as ImpossibleIs, Better as BetterIs, Possible, Surplus, Gain, Exchange, Holds, Arc, Cost, Contract as ContractIs, Over, Price, Empty, Signed, Choice, Shares, Balance, Whole}
-use Rattle.tn_plain_data.specs.declared.said.Fault.{Fault}
-use Rattle.tn_plain_data.specs.declared.said.Shown.{Shown}
-use Rattle.tn_plain_data.specs.declared.contract.Contract.{Contract}
-use Rattle.tn_plain_data.specs.declared.holding.Holding.{Holding}
-use Rattle.tn_plain_data.specs.declared.range.Range.{Range}
-use Rattle.tn_plain_data.specs.declared.session.State.{State}
-use Rattle.tn_plain_data.specs.declared.said.Said.{Said}
-use Rattle.tn_plain_data.specs.declared.said.Said.TheVariants.{Usage, ReadFault, NoMemory, Fault as FaultIs, Equilibrium, Better, Impossible, Accepted, ExchangeFails, Supported, Cycle, Solved, Drill, Ranges, Session, Drops, Completes, Blocks, Valid, Invalid, Cases, Page as PageIs, Firms}
+use Rattle.tn_said.specs.declared.place.PlaceStep.{PlaceStep}
+use Rattle.tn_said.specs.declared.place.PlaceStep.TheVariants.{Key, Index, Trade}
+use Rattle.tn_said.specs.declared.reason.Reason.{Reason}
+use Rattle.tn_said.specs.declared.reason.Reason.TheVariants.{Impossible as ImpossibleIs, Better as BetterIs, Possible, Surplus, Gain, Exchange, Holds, Arc, Cost, Contract as ContractIs, Over, Price, Empty, Signed, Choice, Shares, Balance, Whole}
+use Rattle.tn_said.specs.declared.said.Fault.{Fault}
+use Rattle.tn_said.specs.declared.said.Shown.{Shown}
+use Rattle.tn_model.specs.declared.contract.Contract.{Contract}
+use Rattle.tn_said.specs.declared.holding.Holding.{Holding}
+use Rattle.tn_model.specs.declared.range.Range.{Range}
+use Rattle.tn_said.specs.declared.session.State.{State}
+use Rattle.tn_said.specs.declared.said.Said.{Said}
+use Rattle.tn_said.specs.declared.said.Said.TheVariants.{Usage, ReadFault, NoMemory, Fault as FaultIs, Equilibrium, Better, Impossible, Accepted, ExchangeFails, Supported, Cycle, Solved, Drill, Ranges, Session, Drops, Completes, Blocks, Valid, Invalid, Cases, Page as PageIs, Firms}
 use Rattle.tn_names.specs.Names.{NameLists}
-use Rattle.tn_answer.specs.AnswerText.{contracts_data, state_data, prices_data, nodes_data, step_data, answer, fault_members, fault_data, json, answer_form, form_text, table_of, text_of, answer_line}
+use Rattle.tn_answer.specs.AnswerText.{contracts_data, state_data, prices_data, nodes_data, step_data, answer, fault_members, fault_data, json, answer_form, form_text, answer_table, text_of, answer_line}
 use Rattle.tn_answer.specs.declared.layout.Layout.{Layout}
 use Rattle.tn_answer.specs.declared.layout.Layout.TheVariants.{Object, Rows, WideRows}
 use Rattle.tn_answer.specs.Values.{names_data, option_data, integer_data}
@@ -170,7 +170,7 @@ same_form (Firms content [] surplus) names others e = refl
 same_form (Firms content (holding ∷ holdings) surplus) names others e = absurd (true≢false (sym e))
 
 same_rows : (said : Said) (names others : NameLists) → names_nothing said ≡ true
-    → table_of names said Rows ≡ table_of others said Rows
+    → answer_table names said Rows ≡ answer_table others said Rows
 same_rows (Supported on [] ends) names others e = refl
 same_rows (Supported on (price ∷ prices) ends) names others e = absurd (true≢false (sym e))
 same_rows (Solved on [] surplus ends) names others e = refl
@@ -183,14 +183,14 @@ same_rows (Firms content (holding ∷ holdings) surplus) names others e = absurd
 same_rows said names others e = refl
 
 same_wide_rows : (said : Said) (names others : NameLists) → names_nothing said ≡ true
-    → table_of names said WideRows ≡ table_of others said WideRows
+    → answer_table names said WideRows ≡ answer_table others said WideRows
 same_wide_rows (Solved on [] surplus ends) names others e = refl
 same_wide_rows (Solved on (price ∷ prices) surplus ends) names others e =
     absurd (true≢false (sym (both (are_none on) false e).1))
 same_wide_rows said names others e = refl
 
 -- no answer has rows as an object
-no_table : (names : NameLists) (said : Said) → table_of names said Object ≡ None
+no_table : (names : NameLists) (said : Said) → answer_table names said Object ≡ None
 no_table names (Supported on prices ends) = refl
 no_table names (Solved on prices surplus ends) = refl
 no_table names (Ranges on ranges ends) = refl
@@ -202,7 +202,7 @@ unfolding answer_line
 object_line names said = ap (λ o. text_of o (answer_form names said)) (sym (no_table names said))
 
 same_table : (layout : Layout) (said : Said) (names others : NameLists) → names_nothing said ≡ true
-    → table_of names said layout ≡ table_of others said layout
+    → answer_table names said layout ≡ answer_table others said layout
 same_table Object said names others e = no_table names said ∙ sym (no_table others said)
 same_table Rows said names others e = same_rows said names others e
 same_table WideRows said names others e = same_wide_rows said names others e

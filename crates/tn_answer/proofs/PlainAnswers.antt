@@ -6,25 +6,25 @@ use Rattle.std.proofs.lemmas.List.Elements.{All-head, All-tail}
 use Rattle.serde_json.specs.Data.{number, unsigned}
 use Rattle.serde_json.specs.Find.{of_integer}
 use Rattle.serde_json.specs.View.{items_of}
-use Rattle.tn_base.specs.declared.fault.FaultKind.{FaultKind}
-use Rattle.tn_base.specs.declared.fault.FaultKind.TheVariants.{NotJson}
-use Rattle.tn_base.specs.Faults.{fault_number}
-use Rattle.tn_plain_data.specs.declared.place.PlaceStep.{PlaceStep}
-use Rattle.tn_plain_data.specs.declared.place.PlaceStep.TheVariants.{Key, Index, Trade}
-use Rattle.tn_plain_data.specs.declared.place.Word.{Word}
-use Rattle.tn_plain_data.specs.declared.place.Word.TheVariants.{Version}
-use Rattle.tn_plain_data.specs.declared.reason.Reason.{Reason}
-use Rattle.tn_plain_data.specs.declared.reason.Reason.TheVariants.{Impossible as ImpossibleIs, Better as BetterIs, Possible, Surplus, Gain, Exchange, Holds, Arc, Cost, Contract as ContractIs, Over, Price, Empty, Signed, Choice, Shares, Balance, Whole}
-use Rattle.tn_plain_data.specs.declared.said.Fault.{Fault}
-use Rattle.tn_plain_data.specs.declared.said.Shown.{Shown}
-use Rattle.tn_plain_data.specs.declared.contract.Contract.{Contract}
-use Rattle.tn_plain_data.specs.declared.holding.Holding.{Holding}
-use Rattle.tn_plain_data.specs.declared.range.Range.{Range}
-use Rattle.tn_plain_data.specs.declared.session.State.{State}
-use Rattle.tn_plain_data.specs.declared.said.Said.{Said}
-use Rattle.tn_plain_data.specs.declared.said.Said.TheVariants.{Usage, ReadFault, NoMemory, Fault as FaultIs, Equilibrium, Better, Impossible, Accepted, ExchangeFails, Supported, Cycle, Solved, Drill, Ranges, Session, Drops, Completes, Blocks, Valid, Invalid, Cases, Page as PageIs, Firms}
+use Rattle.tn_said.specs.declared.fault.FaultKind.{FaultKind}
+use Rattle.tn_said.specs.declared.fault.FaultKind.TheVariants.{NotJson}
+use Rattle.tn_said.specs.Faults.{fault_number}
+use Rattle.tn_said.specs.declared.place.PlaceStep.{PlaceStep}
+use Rattle.tn_said.specs.declared.place.PlaceStep.TheVariants.{Key, Index, Trade}
+use Rattle.tn_said.specs.declared.place.Word.{Word}
+use Rattle.tn_said.specs.declared.place.Word.TheVariants.{Version}
+use Rattle.tn_said.specs.declared.reason.Reason.{Reason}
+use Rattle.tn_said.specs.declared.reason.Reason.TheVariants.{Impossible as ImpossibleIs, Better as BetterIs, Possible, Surplus, Gain, Exchange, Holds, Arc, Cost, Contract as ContractIs, Over, Price, Empty, Signed, Choice, Shares, Balance, Whole}
+use Rattle.tn_said.specs.declared.said.Fault.{Fault}
+use Rattle.tn_said.specs.declared.said.Shown.{Shown}
+use Rattle.tn_model.specs.declared.contract.Contract.{Contract}
+use Rattle.tn_said.specs.declared.holding.Holding.{Holding}
+use Rattle.tn_model.specs.declared.range.Range.{Range}
+use Rattle.tn_said.specs.declared.session.State.{State}
+use Rattle.tn_said.specs.declared.said.Said.{Said}
+use Rattle.tn_said.specs.declared.said.Said.TheVariants.{Usage, ReadFault, NoMemory, Fault as FaultIs, Equilibrium, Better, Impossible, Accepted, ExchangeFails, Supported, Cycle, Solved, Drill, Ranges, Session, Drops, Completes, Blocks, Valid, Invalid, Cases, Page as PageIs, Firms}
 use Rattle.tn_names.specs.Names.{NameLists, IsNameList, is_name}
-use Rattle.tn_plain_data.specs.Words.{word_text}
+use Rattle.tn_said.specs.Words.{word_text}
 use Rattle.tn_answer.specs.Words.{kind_name}
 use Rattle.tn_answer.specs.Rows.{each_from}
 use Rattle.tn_answer.specs.ReasonText.{reason_members, IsShortReason}

@@ -3,9 +3,9 @@ use Rattle.std.proofs.Common.{◌≡◌, ℕ, ℤ, ◌<◌, List, [], length, Fi
 use Rattle.std.proofs.lemmas.Option.{slice_get_within}
 use Rattle.std.specs.Fmt.{signed_decimal}
 use Rattle.std.specs.Int.{w64}
-use Rattle.tn_plain_data.specs.declared.ends.Ends.{Ends}
-use Rattle.tn_plain_data.specs.declared.holding.Holding.{Holding}
-use Rattle.tn_plain_data.specs.declared.range.Range.{Range}
+use Rattle.tn_model.specs.declared.ends.Ends.{Ends}
+use Rattle.tn_said.specs.declared.holding.Holding.{Holding}
+use Rattle.tn_model.specs.declared.range.Range.{Range}
 use Rattle.tn_names.specs.Names.{NameLists, IsNameList}
 use Rattle.tn_names.specs.Named.{IsNamed}
 use Rattle.tn_answer.specs.Rows.{buyer_text, deal_head, deal_row, firm_head, firm_row, price_head, price_row, range_head, range_row, rows_text, seller_text, table}

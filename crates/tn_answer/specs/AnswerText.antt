@@ -4,24 +4,24 @@ use Rattle.std.specs.Prelude.{ℕ, ℤ, List, [], ◌∷◌, ◌++◌, map, Opti
 use Rattle.serde_json.specs.Data.{Data, null, number, string, array, object, unsigned, no_items, item, Members, no_members, member}
 use Rattle.serde_json.specs.View.{items_of}
 use Rattle.serde_json.specs.Written.{compact_text}
-use Rattle.tn_base.specs.declared.fault.FaultKind.{FaultKind}
-use Rattle.tn_base.specs.Faults.{fault_number}
-use Rattle.tn_plain_data.specs.declared.place.PlaceStep.{PlaceStep}
-use Rattle.tn_plain_data.specs.declared.place.PlaceStep.TheVariants.{Key, Index, Trade}
-use Rattle.tn_plain_data.specs.declared.contract.Contract.{Contract}
-use Rattle.tn_plain_data.specs.declared.holding.Holding.{Holding}
-use Rattle.tn_plain_data.specs.declared.range.Range.{Range}
-use Rattle.tn_plain_data.specs.declared.session.State.{State}
-use Rattle.tn_plain_data.specs.declared.said.Fault.{Fault}
-use Rattle.tn_plain_data.specs.declared.said.Shown.{Shown}
-use Rattle.tn_plain_data.specs.declared.said.Said.{Said}
-use Rattle.tn_plain_data.specs.declared.said.Said.TheVariants.{Usage, ReadFault, NoMemory, Fault as FaultIs, Equilibrium, Better, Impossible, Accepted, ExchangeFails, Supported, Cycle, Solved, Drill, Ranges, Session, Drops, Completes, Blocks, Valid, Invalid, Cases, Page as PageIs, Firms}
+use Rattle.tn_said.specs.declared.fault.FaultKind.{FaultKind}
+use Rattle.tn_said.specs.Faults.{fault_number}
+use Rattle.tn_said.specs.declared.place.PlaceStep.{PlaceStep}
+use Rattle.tn_said.specs.declared.place.PlaceStep.TheVariants.{Key, Index, Trade}
+use Rattle.tn_model.specs.declared.contract.Contract.{Contract}
+use Rattle.tn_said.specs.declared.holding.Holding.{Holding}
+use Rattle.tn_model.specs.declared.range.Range.{Range}
+use Rattle.tn_said.specs.declared.session.State.{State}
+use Rattle.tn_said.specs.declared.said.Fault.{Fault}
+use Rattle.tn_said.specs.declared.said.Shown.{Shown}
+use Rattle.tn_said.specs.declared.said.Said.{Said}
+use Rattle.tn_said.specs.declared.said.Said.TheVariants.{Usage, ReadFault, NoMemory, Fault as FaultIs, Equilibrium, Better, Impossible, Accepted, ExchangeFails, Supported, Cycle, Solved, Drill, Ranges, Session, Drops, Completes, Blocks, Valid, Invalid, Cases, Page as PageIs, Firms}
 use Rattle.tn_names.specs.Names.{NameLists}
 use Rattle.tn_answer.specs.Pages.{lines_text, page_lines}
 use Rattle.tn_answer.specs.ReasonText.{reason_members}
 use Rattle.tn_answer.specs.Rows.{each_from, deal_head, deal_row, firm_head, firm_row, price_head, price_row, range_head, range_row, rows_text, table}
 use Rattle.tn_answer.specs.Values.{name_data, names_data, option_data, integer_data, bound_data, numbers_data}
-use Rattle.tn_plain_data.specs.Words.{word_text}
+use Rattle.tn_said.specs.Words.{word_text}
 use Rattle.tn_answer.specs.Words.{kind_name}
 use Rattle.tn_answer.specs.declared.layout.Layout.{Layout}
 use Rattle.tn_answer.specs.declared.layout.Layout.TheVariants.{Rows, WideRows}
@@ -177,13 +177,13 @@ abbrev pub answer_data : NameLists → Said → Data
 answer_data names said = data_in (answer_form names said)
 
 -- the table of an answer in a layout, none where the two have none
-abbrev pub table_of : NameLists → Said → Layout → Option (List (List (List ℕ)))
-table_of names (Supported on prices ends) Rows = Some (table deal_head (deal_row names on ends) prices)
-table_of names (Solved on prices surplus ends) Rows = Some (table price_head (price_row names on) prices)
-table_of names (Solved on prices surplus ends) WideRows = Some (table deal_head (deal_row names on ends) prices)
-table_of names (Ranges on ranges ends) Rows = Some (table range_head (range_row names on ends) ranges)
-table_of names (Firms content firms surplus) Rows = Some (table firm_head (firm_row names) firms)
-table_of names said layout = None
+abbrev pub answer_table : NameLists → Said → Layout → Option (List (List (List ℕ)))
+answer_table names (Supported on prices ends) Rows = Some (table deal_head (deal_row names on ends) prices)
+answer_table names (Solved on prices surplus ends) Rows = Some (table price_head (price_row names on) prices)
+answer_table names (Solved on prices surplus ends) WideRows = Some (table deal_head (deal_row names on ends) prices)
+answer_table names (Ranges on ranges ends) Rows = Some (table range_head (range_row names on ends) ranges)
+answer_table names (Firms content firms surplus) Rows = Some (table firm_head (firm_row names) firms)
+answer_table names said layout = None
 
 -- a form as text: a JSON value is one compact line
 abbrev pub form_text : Form → List ℕ
@@ -197,4 +197,4 @@ text_of (Some rows) form = rows_text rows
 
 -- an answer in a layout as text
 unfoldable pub answer_line : Layout → NameLists → Said → List ℕ
-answer_line layout names said = text_of (table_of names said layout) (answer_form names said)
+answer_line layout names said = text_of (answer_table names said layout) (answer_form names said)

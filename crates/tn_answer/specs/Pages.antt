@@ -1,7 +1,7 @@
 -- The pages: what the program tells of itself.
 use Rattle.std.specs.Prelude.{ℕ, List, [], ◌∷◌, ◌++◌, codes, flat_map}
-use Rattle.tn_plain_data.specs.declared.said.Page.{Page}
-use Rattle.tn_plain_data.specs.declared.said.Page.TheVariants.{Help, Version, About}
+use Rattle.tn_said.specs.declared.said.Page.{Page}
+use Rattle.tn_said.specs.declared.said.Page.TheVariants.{Help, Version, About}
 use Rattle.tn_answer.specs.Topics.{topic_lines}
 
 -- each command with what it asks, and an example

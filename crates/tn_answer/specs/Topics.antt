@@ -1,7 +1,7 @@
 -- The pages about commands: what each reads, an example, its answers, its words and its statuses.
 use Rattle.std.specs.Prelude.{ℕ, List, [], ◌∷◌, codes}
-use Rattle.tn_plain_data.specs.declared.said.Topic.{Topic}
-use Rattle.tn_plain_data.specs.declared.said.Topic.TheVariants.{Check, Firms, Test, Support, Solve, Range, Session, Judge, Replay, Drill, Cases}
+use Rattle.tn_said.specs.declared.said.Topic.{Topic}
+use Rattle.tn_said.specs.declared.said.Topic.TheVariants.{Check, Firms, Test, Support, Solve, Range, Session, Judge, Replay, Drill, Cases}
 
 -- how each of these pages ends: what the other statuses mean
 abbrev pub status_lines : List (List ℕ)

@@ -11,8 +11,8 @@ use crate::values::name_at;
 use csv::{ByteRecord, Writer};
 use std::alloc::Global;
 use tn_base::OutOfMemory;
+use tn_model::Trades;
 use tn_names::Names;
-use tn_plain_data::Trades;
 
 /// A field of a row.
 #[derive(Clone, Copy)]

@@ -14,8 +14,9 @@ use crate::reasons::numbers_value;
 use crate::values::{firm_name, option_value, trade_value};
 use serde_json::{Map, Value};
 use std::alloc::{AllocError, Global};
+use tn_model::{Contracts, Nodes, Prices, Trades};
 use tn_names::Names;
-use tn_plain_data::{Contracts, Nodes, Numbers, Place, Prices, Trades};
+use tn_said::{Numbers, Place};
 
 /// What stands beside a key of an answer. Lists of ranges and of states are no fields, since each of their items is an
 /// object of fields: the calls would go in a circle.

@@ -4,7 +4,7 @@
 ghost use Rattle.std.specs.Prelude.{◌≡◌, [], All, IfOk, IfSome, FitsSigned, slice_get, unwrap_or};
 ghost use Rattle.std.specs.Int.{w64};
 ghost use Rattle.serde_json.specs.View.{view};
-ghost use Rattle.tn_plain_data.specs.declared.said.Said.TheVariants.{Firms};
+ghost use Rattle.tn_said.specs.declared.said.Said.TheVariants.{Firms};
 ghost use Rattle.tn_answer.specs.AnswerText.{answer_data, holding_data};
 ghost use Rattle.tn_answer.specs.Sayable.{IsShortHolding};
 
@@ -13,7 +13,7 @@ use crate::fields::{Field, object_of, object_with};
 use serde_json::Value;
 use std::alloc::{AllocError, Global};
 use tn_names::Names;
-use tn_plain_data::{Holding, Holdings};
+use tn_said::{Holding, Holdings};
 
 /// The name of the firm at a place, empty where there is none.
 pub(crate) fn firm_name_at(names: &Names, k: usize) -> &str

@@ -7,7 +7,7 @@ ghost use Rattle.tn_answer.specs.Pages.{help_lines, lines_text, page_lines, vers
 ghost use Rattle.tn_names.specs.Names.{NameLists};
 
 use crate::topics::topic_text;
-use tn_plain_data::{Page, Said};
+use tn_said::{Page, Said};
 
 /// What can be asked: each command, with an example.
 fn help_text() -> &'static str

@@ -11,8 +11,8 @@ use crate::fields::{Field, object_of};
 use crate::values::name_at;
 use serde_json::Value;
 use std::alloc::{AllocError, Global};
+use tn_model::{Range, Ranges};
 use tn_names::Names;
-use tn_plain_data::{Range, Ranges};
 
 fn range_value<'a>(
     alloc: Global,

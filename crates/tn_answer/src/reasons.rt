@@ -12,8 +12,9 @@ ghost use Rattle.tn_answer.specs.Values.{integer_data, name_data, numbers_data};
 use crate::fields::{Field, invalid_of};
 use serde_json::Value;
 use std::alloc::{AllocError, Global};
+use tn_model::Trades;
 use tn_names::Names;
-use tn_plain_data::{Numbers, Reason, Trades};
+use tn_said::{Numbers, Reason};
 
 pub(crate) fn invalid_value(
     alloc: Global,

@@ -13,8 +13,9 @@ use crate::values::{firm_name, name_at};
 use csv::Writer;
 use std::alloc::Global;
 use tn_base::OutOfMemory;
+use tn_model::{Prices, Range, Ranges, TradeEnds, Trades};
 use tn_names::Names;
-use tn_plain_data::{Holding, Holdings, Prices, Range, Ranges, TradeEnds, Trades};
+use tn_said::{Holding, Holdings};
 
 /// Whether a list has a number.
 fn is_listed(on: &Trades, k: usize) -> bool

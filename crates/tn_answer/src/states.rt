@@ -12,8 +12,9 @@ use crate::fields::{Field, object_of};
 use crate::values::price_value;
 use serde_json::Value;
 use std::alloc::{AllocError, Global};
+use tn_model::{Contract, Contracts};
 use tn_names::Names;
-use tn_plain_data::{Contract, Contracts, State, States};
+use tn_said::{State, States};
 
 fn contract_value(alloc: Global, names: &Names, contract: Contract) -> Result<Value, AllocError>
     requires { FitsSigned w64 contract.price }

@@ -2,7 +2,7 @@
 
 ghost use Rattle.std.specs.Prelude.{◌≡◌, ◌++◌, ◌∷◌, [], IfOk};
 ghost use Rattle.serde_json.specs.Written.{compact_text};
-ghost use Rattle.tn_answer.specs.AnswerText.{answer_data, answer_form, answer_line, form_text, table_of, text_of};
+ghost use Rattle.tn_answer.specs.AnswerText.{answer_data, answer_form, answer_line, answer_table, form_text, text_of};
 ghost use Rattle.tn_answer.specs.declared.layout.Layout.{Layout};
 ghost use Rattle.tn_names.specs.Names.{NameLists};
 ghost use Rattle.tn_answer.specs.Sayable.{IsSayable};
@@ -14,7 +14,7 @@ use crate::values::answer_value;
 use std::alloc::Global;
 use tn_base::OutOfMemory;
 use tn_names::Names;
-use tn_plain_data::Said;
+use tn_said::Said;
 
 /// The text of an answer in a layout over some names. A firm or a trade without a name has an empty one. The numbers of
 /// the answer fit 64 bits, and a fault shows a triple exactly where exchange fails. It fails only where memory runs
@@ -51,7 +51,7 @@ fn object_text(alloc: Global, names: &Names, said: &Said) -> Result<Vec<u8>, Out
 fn text_in_rows(alloc: Global, names: &Names, said: &Said) -> Result<Vec<u8>, OutOfMemory>
     requires { IsSayable said.now }
     ensures { IfOk result
-        (λ text. text.items ≡ text_of (table_of names.now said.now Layout.Rows) (answer_form names.now said.now)) }
+        (λ text. text.items ≡ text_of (answer_table names.now said.now Layout.Rows) (answer_form names.now said.now)) }
 {
     match said {
         Said::Solved { on, prices, .. } => price_rows(alloc, names, on, prices),
@@ -66,7 +66,8 @@ fn text_in_rows(alloc: Global, names: &Names, said: &Said) -> Result<Vec<u8>, Ou
 fn text_in_wide_rows(alloc: Global, names: &Names, said: &Said) -> Result<Vec<u8>, OutOfMemory>
     requires { IsSayable said.now }
     ensures { IfOk result
-        (λ text. text.items ≡ text_of (table_of names.now said.now Layout.WideRows) (answer_form names.now said.now)) }
+        (λ text. text.items ≡ text_of (answer_table names.now said.now Layout.WideRows)
+        (answer_form names.now said.now)) }
 {
     match said {
         Said::Solved {

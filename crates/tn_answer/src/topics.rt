@@ -3,9 +3,9 @@
 ghost use Rattle.std.specs.Prelude.{◌≡◌};
 ghost use Rattle.tn_answer.specs.Pages.{lines_text};
 ghost use Rattle.tn_answer.specs.Topics.{topic_lines};
-ghost use Rattle.tn_plain_data.specs.declared.said.Topic.{Topic};
+ghost use Rattle.tn_said.specs.declared.said.Topic.{Topic};
 
-use tn_plain_data::Topic;
+use tn_said::Topic;
 
 /// The lines of a page as a text, and below them what the other statuses mean.
 macro_rules! page {

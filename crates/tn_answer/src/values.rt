@@ -17,10 +17,9 @@ use crate::reasons::invalid_value;
 use crate::words::kind_name;
 use serde_json::{Value, json};
 use std::alloc::{AllocError, Global};
+use tn_model::{Contracts, Nodes, Prices, Ranges, Trades};
 use tn_names::Names;
-use tn_plain_data::{
-    Contracts, Fault, Nodes, Numbers, Place, PlaceStep, Prices, Ranges, Said, Shown, States, Trades,
-};
+use tn_said::{Fault, Numbers, Place, PlaceStep, Said, Shown, States};
 
 pub(crate) fn answer_value(alloc: Global, names: &Names, said: &Said) -> Result<Value, AllocError>
     requires { IsSayable said.now }

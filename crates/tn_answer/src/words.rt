@@ -3,7 +3,7 @@
 ghost use Rattle.std.specs.Prelude.{◌≡◌};
 ghost use Rattle.tn_answer.specs.Words.{kind_name};
 
-use tn_base::FaultKind;
+use tn_said::FaultKind;
 
 /// The name of a kind of fault, as an answer has it.
 pub(crate) fn kind_name(kind: FaultKind) -> &'static str

@@ -3,7 +3,6 @@ pub mod Sets
 pub mod Firm
 pub mod Exchange
 pub mod Table
-pub mod Faults
 pub mod Widths
 pub mod Arcs
 pub mod ArcLemmas

@@ -1,9 +1,8 @@
-//! Bundles and sets of trades as sets, counted steps, kinds of faults; what a firm and the exchange property are.
+//! Bundles and sets of trades as sets, counted steps; what a firm and the exchange property are.
 #![tactic(auto)]
 
 mod bundle;
 mod costs;
-mod fault;
 mod laws;
 mod memory;
 mod side;
@@ -12,7 +11,6 @@ mod trade_set;
 
 pub use bundle::Bundle;
 pub use costs::Costs;
-pub use fault::FaultKind;
 pub use laws::{
     bundles_are_sets, exchange_is_what_no_triple_fails, sets_are_counted_and_summed,
     tables_are_firms,

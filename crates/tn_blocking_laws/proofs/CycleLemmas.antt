@@ -11,21 +11,21 @@ use Rattle.tn_base.proofs.SetLemmas.{has-zero, has-toggle_other}
 use Rattle.tn_base.proofs.SizeLemmas.{size-toggle_out}
 use Rattle.tn_base.proofs.SumLemmas.{times-plus, sum_over-same_terms}
 use Rattle.tn_base.proofs.WalkLemmas.{walk_parts, both_are, walk-same}
-use Rattle.tn_law.specs.Places.{trade_level, level, move, CanRise, CanFall}
-use Rattle.tn_law.proofs.PlaceLemmas.{level-trade}
-use Rattle.tn_law.proofs.KeepLemmas.{times-le}
-use Rattle.tn_plain_data.specs.declared.ends.Ends.{Ends}
-use Rattle.tn_plain_data.specs.declared.contract.Contract.{Contract}
-use Rattle.tn_plain_data.specs.Network.{own, part, IsNetwork}
+use Rattle.tn_firm_laws.specs.Places.{trade_level, level, move, CanRise, CanFall}
+use Rattle.tn_firm_laws.proofs.PlaceLemmas.{level-trade}
+use Rattle.tn_firm_laws.proofs.KeepLemmas.{times-le}
+use Rattle.tn_model.specs.declared.ends.Ends.{Ends}
+use Rattle.tn_model.specs.declared.contract.Contract.{Contract}
+use Rattle.tn_model.specs.Network.{own, part, IsNetwork}
 use Rattle.tn_market.specs.Admitted.{admitted}
 use Rattle.tn_market.specs.Graph.{exchange_arc}
 use Rattle.tn_market.specs.ArcPlaces.{node_at, AreArcPlaces}
 use Rattle.tn_market.specs.Reduced.{reduced_firms, reduced_arc}
 use Rattle.tn_market.proofs.GraphLemmas.{node_at-trade, node_at-null, arc_at, arc_from, has-part}
-use Rattle.tn_network.proofs.SupportLemmas.{paid_move, price_of_place, loss_parts, loss_of, negative_cycles}
-use Rattle.tn_network.proofs.AdmittedLemmas.{admitted_network, arcs_admitted}
-use Rattle.tn_outcome.proofs.CompletionLemmas.{reduced_network}
-use Rattle.tn_outcome.proofs.NoMoreLemmas.{empty_inside}
+use Rattle.tn_network_laws.proofs.SupportLemmas.{paid_move, price_of_place, loss_parts, loss_of, negative_cycles}
+use Rattle.tn_network_laws.proofs.AdmittedLemmas.{admitted_network, arcs_admitted}
+use Rattle.tn_outcome_laws.proofs.CompletionLemmas.{reduced_network}
+use Rattle.tn_outcome_laws.proofs.NoMoreLemmas.{empty_inside}
 use Rattle.tn_blocking_laws.specs.Taxed.{taxed, taxed_firms, IsTaxedEquilibrium}
 use Rattle.tn_blocking_laws.proofs.TaxLemmas.{taxed_is, taxed_network}
 

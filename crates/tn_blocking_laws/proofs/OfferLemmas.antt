@@ -9,25 +9,25 @@ use Rattle.tn_base.specs.Sets.{has, minus, size_below, sum_over}
 use Rattle.tn_base.specs.Firm.{Firm, HasOwnBundles, plus_sum, payments, among, IsBest}
 use Rattle.tn_base.proofs.SetLemmas.{has-set_of, has-minus, has_below, set_of_within, minus-zero_from}
 use Rattle.tn_base.proofs.SumLemmas.{times-plus, sum_over-same_terms, sum_over-times}
-use Rattle.tn_law.proofs.KeepLemmas.{option_map-some}
-use Rattle.tn_plain_data.specs.declared.ends.Ends.{Ends}
-use Rattle.tn_plain_data.specs.declared.contract.Contract.{Contract}
-use Rattle.tn_plain_data.specs.Network.{own, part}
+use Rattle.tn_firm_laws.proofs.KeepLemmas.{option_map-some}
+use Rattle.tn_model.specs.declared.ends.Ends.{Ends}
+use Rattle.tn_model.specs.declared.contract.Contract.{Contract}
+use Rattle.tn_model.specs.Network.{own, part}
 use Rattle.tn_market.specs.Best.{IsSubset}
 use Rattle.tn_market.specs.Equilibrium.{prices_at}
-use Rattle.tn_plain_data.specs.Choices.{is_traded, bundle_by, counted, together, IsFeasible, IsChoice, Blocks}
+use Rattle.tn_model.specs.Choices.{is_traded, bundle_by, counted, together, IsFeasible, IsChoice, Blocks}
 use Rattle.tn_market.specs.Signed.{is_signed, signed_price, signed_bundle, contract_utility}
 use Rattle.tn_market.specs.Reduced.{reduced, reduced_firms}
 use Rattle.tn_market.proofs.GraphLemmas.{has-part}
-use Rattle.tn_network.proofs.AdmittedLemmas.{admitted_is, among_inside, among_parts}
-use Rattle.tn_network.proofs.PartLemmas.{own_contract, traded_at, IsTradedAt}
-use Rattle.tn_network.proofs.PoolLemmas.{append_cases, append_behind, counted_at, offer_in_pool}
-use Rattle.tn_network.proofs.StabilityLemmas.{times-times, times-neg}
-use Rattle.tn_network.proofs.WelfareLemmas.{le_from_times}
-use Rattle.tn_outcome.specs.Rational.{IsRationalOutcome}
-use Rattle.tn_outcome.proofs.SignedLemmas.{contract_on, signed_by, price_of_contract, has-signed_bundle}
-use Rattle.tn_outcome.proofs.RationalLemmas.{IsSigner, bundle_signed, choice_to_bundles, between_signed}
-use Rattle.tn_outcome.proofs.CompletionLemmas.{reduced_is}
+use Rattle.tn_network_laws.proofs.AdmittedLemmas.{admitted_is, among_inside, among_parts}
+use Rattle.tn_network_laws.proofs.PartLemmas.{own_contract, traded_at, IsTradedAt}
+use Rattle.tn_network_laws.proofs.PoolLemmas.{append_cases, append_behind, counted_at, offer_in_pool}
+use Rattle.tn_network_laws.proofs.StabilityLemmas.{times-times, times-neg}
+use Rattle.tn_network_laws.proofs.WelfareLemmas.{le_from_times}
+use Rattle.tn_outcome_laws.specs.Rational.{IsRationalOutcome}
+use Rattle.tn_outcome_laws.proofs.SignedLemmas.{contract_on, signed_by, price_of_contract, has-signed_bundle}
+use Rattle.tn_outcome_laws.proofs.RationalLemmas.{IsSigner, bundle_signed, choice_to_bundles, between_signed}
+use Rattle.tn_outcome_laws.proofs.CompletionLemmas.{reduced_is}
 use Rattle.tn_blocking_laws.specs.Taxed.{taxed, taxed_firms, IsTaxedEquilibrium, AreOffers}
 use Rattle.tn_blocking_laws.proofs.TaxLemmas.{tax_is, taxed_is}
 use Rattle.tn_blocking_laws.proofs.ScaleLemmas.{IsCover, firm_cover, scaled_price}

@@ -4,17 +4,17 @@ use Rattle.std.proofs.lemmas.Int.{ints}
 use Rattle.tn_base.specs.Sets.{has, minus, sum_over}
 use Rattle.tn_base.specs.Firm.{Firm, HasOwnBundles, plus_sum, payments}
 use Rattle.tn_base.proofs.SumLemmas.{times-plus, sum_over-times}
-use Rattle.tn_law.proofs.KeepLemmas.{option_map-some, times-le}
-use Rattle.tn_plain_data.specs.declared.ends.Ends.{Ends}
-use Rattle.tn_plain_data.specs.declared.contract.Contract.{Contract}
-use Rattle.tn_plain_data.specs.Network.{own, IsNetwork}
+use Rattle.tn_firm_laws.proofs.KeepLemmas.{option_map-some, times-le}
+use Rattle.tn_model.specs.declared.ends.Ends.{Ends}
+use Rattle.tn_model.specs.declared.contract.Contract.{Contract}
+use Rattle.tn_model.specs.Network.{own, IsNetwork}
 use Rattle.tn_market.specs.Equilibrium.{prices_at}
 use Rattle.tn_market.specs.Signed.{is_signed, signed_price, signed_bundle}
 use Rattle.tn_market.specs.Reduced.{adding, reduced}
-use Rattle.tn_network.proofs.StabilityLemmas.{times-times, times-neg}
-use Rattle.tn_outcome.proofs.AddingLemmas.{adding_one, adding_most}
-use Rattle.tn_outcome.proofs.SignedLemmas.{no_price, has-signed_bundle}
-use Rattle.tn_outcome.proofs.SplitLemmas.{AreSplit, sum_over-split, own_priced}
+use Rattle.tn_network_laws.proofs.StabilityLemmas.{times-times, times-neg}
+use Rattle.tn_outcome_laws.proofs.AddingLemmas.{adding_one, adding_most}
+use Rattle.tn_outcome_laws.proofs.SignedLemmas.{no_price, has-signed_bundle}
+use Rattle.tn_outcome_laws.proofs.SplitLemmas.{AreSplit, sum_over-split, own_priced}
 
 -- each bundle of the firm has at most the value of its part beside the given positions, and each such value is one of
 -- such a bundle

@@ -8,19 +8,19 @@ use Rattle.tn_base.specs.Sets.{has, size_below, sum_over}
 use Rattle.tn_base.specs.Firm.{Firm}
 use Rattle.tn_base.specs.Walks.{arcs_among, is_admitted, KeepsArcs}
 use Rattle.tn_base.proofs.SumLemmas.{times-plus, sum_over-empty}
-use Rattle.tn_law.proofs.KeepLemmas.{option_map-some, times-le}
-use Rattle.tn_plain_data.specs.declared.ends.Ends.{Ends}
-use Rattle.tn_plain_data.specs.declared.contract.Contract.{Contract}
-use Rattle.tn_plain_data.specs.Network.{part, IsNetwork}
+use Rattle.tn_firm_laws.proofs.KeepLemmas.{option_map-some, times-le}
+use Rattle.tn_model.specs.declared.ends.Ends.{Ends}
+use Rattle.tn_model.specs.declared.contract.Contract.{Contract}
+use Rattle.tn_model.specs.Network.{part, IsNetwork}
 use Rattle.tn_market.specs.Equilibrium.{surplus_from}
 use Rattle.tn_market.specs.Admitted.{admitted}
 use Rattle.tn_market.specs.Reduced.{reduced_firms, reduced_arc}
 use Rattle.tn_market.proofs.GraphLemmas.{has-part, seller_end}
-use Rattle.tn_network.proofs.AdmittedLemmas.{admitted_network}
-use Rattle.tn_network.proofs.WelfareLemmas.{equilibrium_is_efficient}
-use Rattle.tn_outcome.specs.Rational.{IsRationalOutcome}
-use Rattle.tn_outcome.proofs.CompletionLemmas.{no_part, reduced_network}
-use Rattle.tn_outcome.proofs.NoMoreLemmas.{numbers_leave_no_more, surplus_from-admitted, empty_inside}
+use Rattle.tn_network_laws.proofs.AdmittedLemmas.{admitted_network}
+use Rattle.tn_network_laws.proofs.WelfareLemmas.{equilibrium_is_efficient}
+use Rattle.tn_outcome_laws.specs.Rational.{IsRationalOutcome}
+use Rattle.tn_outcome_laws.proofs.CompletionLemmas.{no_part, reduced_network}
+use Rattle.tn_outcome_laws.proofs.NoMoreLemmas.{numbers_leave_no_more, surplus_from-admitted, empty_inside}
 use Rattle.tn_blocking_laws.specs.Taxed.{taxed, taxed_firms, IsTaxedEquilibrium}
 
 -- ---- the list of taxed firms

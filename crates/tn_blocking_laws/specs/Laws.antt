@@ -3,12 +3,12 @@ use Rattle.std.specs.Prelude.{◌≡◌, ℕ, ◌*◌, ◌<◌, ℤ, pos, ◌*�
 use Rattle.tn_base.specs.Sets.{has, size}
 use Rattle.tn_base.specs.Firm.{Firm}
 use Rattle.tn_base.specs.Walks.{arcs_among, is_admitted, IsCycle, KeepsArcs}
-use Rattle.tn_plain_data.specs.declared.ends.Ends.{Ends}
-use Rattle.tn_plain_data.specs.declared.contract.Contract.{Contract}
-use Rattle.tn_plain_data.specs.Network.{IsNetwork}
-use Rattle.tn_plain_data.specs.Choices.{Blocks}
+use Rattle.tn_model.specs.declared.ends.Ends.{Ends}
+use Rattle.tn_model.specs.declared.contract.Contract.{Contract}
+use Rattle.tn_model.specs.Network.{IsNetwork}
+use Rattle.tn_model.specs.Choices.{Blocks}
 use Rattle.tn_market.specs.Reduced.{reduced_arc}
-use Rattle.tn_outcome.specs.Rational.{IsRationalOutcome}
+use Rattle.tn_outcome_laws.specs.Rational.{IsRationalOutcome}
 use Rattle.tn_blocking_laws.specs.Taxed.{IsTaxedEquilibrium, AreOffers}
 
 -- where no trade of a taxed equilibrium is on, and the scale is more than twice the number of allowed trades, no cycle

@@ -5,7 +5,7 @@ use Rattle.std.specs.List.{AllByRecursion}
 use Rattle.tn_answer.specs.AnswerText.{answer_line}
 use Rattle.tn_cases.specs.Case.{CaseData}
 use Rattle.tn_file.specs.Document.{DocumentData, reading_of}
-use Rattle.tn_plain_data.specs.declared.said.Said.{Said}
+use Rattle.tn_said.specs.declared.said.Said.{Said}
 use Rattle.tn_run.specs.Answer.{IsAnswerOf, IsAnswerTo}
 use Rattle.tn_run.specs.Cases.{IsCaseAnswer, IsAllowed}
 use Rattle.tn_run.specs.Run.{status_of}

@@ -6,15 +6,15 @@ use Rattle.json.specs.Print.{escape_byte}
 use Rattle.tn_base.specs.Sets.{has, set_of, toggle}
 use Rattle.tn_answer.specs.AnswerText.{answer_line}
 use Rattle.tn_cases.specs.Book.{cases_of_the_book}
-use Rattle.tn_command.proofs.CheckLemmas.{completed_lasts, implied_by}
-use Rattle.tn_command.specs.Implied.{IsLastingOutcome}
+use Rattle.tn_commands.proofs.CheckLemmas.{completed_lasts, implied_by}
+use Rattle.tn_commands.specs.Implied.{IsLastingOutcome}
 use Rattle.tn_exchange.specs.Rows.{worth_in}
 use Rattle.tn_file.specs.declared.need.Need.TheVariants.{Market, Raw, Arrangement, Outcome}
 use Rattle.tn_file.specs.Laws.{IsDocument}
 use Rattle.tn_file.proofs.DocumentLeads.{documents_are_networks}
-use Rattle.tn_plain_data.specs.declared.said.Said.TheVariants.{Equilibrium, Better, Impossible, Accepted, Cycle, Solved, Drops, Completes, Invalid}
-use Rattle.tn_plain_data.specs.declared.reason.Reason.TheVariants.{Choice}
-use Rattle.tn_plain_data.specs.Prices.{price_at}
+use Rattle.tn_said.specs.declared.said.Said.TheVariants.{Equilibrium, Better, Impossible, Accepted, Cycle, Solved, Drops, Completes, Invalid}
+use Rattle.tn_said.specs.declared.reason.Reason.TheVariants.{Choice}
+use Rattle.tn_model.specs.Prices.{price_at}
 use Rattle.tn_market.specs.Equilibrium.{surplus_of}
 use Rattle.tn_run.specs.declared.command.Command.TheVariants.{Check, Judge, Replay, Solve, Support, Test}
 use Rattle.tn_case_laws.specs.Laws.{HasOneAnswer, EachCaseHasOneAnswer}

@@ -6,13 +6,14 @@ use Rattle.std.proofs.lemmas.Option.{same_Some, none-some}
 use Rattle.tn_base.specs.Sets.{has, sum_over, toggle, set_of}
 use Rattle.tn_base.specs.Firm.{Firm, IsBest, payments}
 use Rattle.tn_exchange.specs.Rows.{worth_in}
-use Rattle.tn_plain_data.specs.declared.ends.Ends.{Ends}
-use Rattle.tn_plain_data.specs.declared.said.Said.{Said}
-use Rattle.tn_plain_data.specs.declared.said.Said.TheVariants.{Equilibrium, Better, Impossible}
-use Rattle.tn_plain_data.specs.Prices.{price_at}
-use Rattle.tn_plain_data.specs.Network.{part, trades_of}
+use Rattle.tn_model.specs.declared.ends.Ends.{Ends}
+use Rattle.tn_said.specs.declared.said.Said.{Said}
+use Rattle.tn_said.specs.declared.said.Said.TheVariants.{Equilibrium, Better, Impossible}
+use Rattle.tn_model.specs.Prices.{price_at}
+use Rattle.tn_model.specs.Network.{part, trades_of}
 use Rattle.tn_market.specs.Equilibrium.{utility_at, prices_at, HasBest, IsEquilibrium, surplus_of}
-use Rattle.tn_market.specs.Judged.{Judges, IsFirstBettered}
+use Rattle.tn_market.specs.Judged.{IsFirstBettered}
+use Rattle.tn_commands.specs.Check.{ChecksArrangement}
 use Rattle.tn_case_laws.proofs.Decided.{all_below}
 use Rattle.tn_case_laws.proofs.Finite.{best_by, only_best}
 use Rattle.tn_case_laws.proofs.Deal.{asks_3, buyer, seller, deal_firms, deal_trades, seller_below, buyer_below}
@@ -38,7 +39,7 @@ not_bettered firms trades scale on prices f x gain at best =
 -- of an equilibrium nothing but its surplus is said
 pub only_equilibrium : (firms : List Firm) (trades : List Ends) (on : ℕ) (prices : ℕ → ℤ) (surplus : ℤ)
     → IsEquilibrium firms trades (pos 1) on prices → surplus_of firms trades on ≡ Some surplus
-    → (said : Said) → Judges firms trades (pos 1) on prices said → said ≡ Equilibrium surplus
+    → (said : Said) → ChecksArrangement firms trades (pos 1) on prices said → said ≡ Equilibrium surplus
 only_equilibrium firms trades on prices surplus equilibrium is (Equilibrium other) judges =
     ap (λ s. Equilibrium s) (same_Some other surplus (sym judges.1 ∙ is))
 only_equilibrium firms trades on prices surplus equilibrium is (Better f bundle gain) judges =
@@ -81,7 +82,7 @@ buyer_lacks best =
     let most : pos 0 ≤ℤ best.0 = best.1.most 0 (pos 0) buyer_best.is in
     absurd (omega (arith, ints, own, most))
 
-pub is_better : Judges (deal_firms asks_3) deal_trades (pos 1) 1 at_6 (Better 1 [] (pos 1))
+pub is_better : ChecksArrangement (deal_firms asks_3) deal_trades (pos 1) 1 at_6 (Better 1 [] (pos 1))
 unfolding has
 is_better = (
   0,
@@ -127,7 +128,7 @@ buyer_possible : buyer.worth (part deal_trades 1 buyer.count 1) ≡ None → ⊥
 unfolding has set_of worth_in toggle
 buyer_possible e = none-some (pos 5) (sym e)
 
-pub only_better : (said : Said) → Judges (deal_firms asks_3) deal_trades (pos 1) 1 at_6 said
+pub only_better : (said : Said) → ChecksArrangement (deal_firms asks_3) deal_trades (pos 1) 1 at_6 said
     → said ≡ Better 1 [] (pos 1)
 only_better (Equilibrium surplus) judges = absurd (buyer_lacks (judges.0 1 buyer refl))
 only_better (Better zero bundle gain) judges =

@@ -6,7 +6,7 @@ use Rattle.std.proofs.lemmas.Bool.{or_cases, eqb-true}
 use Rattle.std.proofs.lemmas.Option.{same_Some, none-some}
 use Rattle.tn_base.specs.Firm.{Firm, HasOwnBundles, payments, IsBest}
 use Rattle.tn_base.specs.Sets.{sum_over}
-use Rattle.tn_plain_data.specs.declared.ends.Ends.{Ends}
+use Rattle.tn_model.specs.declared.ends.Ends.{Ends}
 use Rattle.tn_market.specs.Equilibrium.{utility_at, prices_at}
 use Rattle.tn_case_laws.proofs.Decided.{all_below, each_below, ordered, ordered_strictly}
 

@@ -8,16 +8,16 @@ use Rattle.tn_base.specs.Arcs.{IsAtMost}
 use Rattle.tn_base.specs.Sets.{has, sum_over, toggle, set_of}
 use Rattle.tn_base.specs.Firm.{Firm}
 use Rattle.tn_exchange.specs.Rows.{worth_in}
-use Rattle.tn_plain_data.specs.declared.contract.Contract.{Contract}
-use Rattle.tn_plain_data.specs.declared.ends.Ends.{Ends}
-use Rattle.tn_plain_data.specs.declared.said.Said.{Said}
-use Rattle.tn_plain_data.specs.declared.said.Said.TheVariants.{Drops, Completes, Blocks}
-use Rattle.tn_plain_data.specs.Prices.{price_at}
-use Rattle.tn_plain_data.specs.Choices.{IsPart, IsChoice, IsIndividuallyRational, is_of, own_part, part_utility, bundle_by}
-use Rattle.tn_plain_data.specs.Network.{trades_of}
+use Rattle.tn_model.specs.declared.contract.Contract.{Contract}
+use Rattle.tn_model.specs.declared.ends.Ends.{Ends}
+use Rattle.tn_said.specs.declared.said.Said.{Said}
+use Rattle.tn_said.specs.declared.said.Said.TheVariants.{Drops, Completes, Blocks}
+use Rattle.tn_model.specs.Prices.{price_at}
+use Rattle.tn_model.specs.Choices.{IsPart, IsChoice, IsIndividuallyRational, is_of, own_part, part_utility, bundle_by}
+use Rattle.tn_model.specs.Network.{trades_of}
 use Rattle.tn_market.specs.Equilibrium.{utility_at, HasBest, IsEquilibrium}
 use Rattle.tn_market.specs.Signed.{signed}
-use Rattle.tn_command.specs.Outcome.{JudgesOutcome}
+use Rattle.tn_commands.specs.Judge.{JudgesOutcome}
 use Rattle.tn_judge.specs.Verdict.{WouldDrop, IsCompletedBy}
 use Rattle.tn_case_laws.proofs.Decided.{all_below, each_below, ordered}
 use Rattle.tn_case_laws.proofs.Finite.{best_by, is_at_most, two_firms}

@@ -5,8 +5,8 @@ use Rattle.std.proofs.lemmas.List.Elements.{All-head}
 use Rattle.std.proofs.lemmas.Option.{slice_get-get_or}
 use Rattle.tn_cases.specs.Book.{cases_of_the_book}
 use Rattle.tn_cases.specs.Case.{CaseData}
-use Rattle.tn_plain_data.specs.declared.said.Said.{Said}
-use Rattle.tn_plain_data.specs.declared.said.Said.TheVariants.{Cases}
+use Rattle.tn_said.specs.declared.said.Said.{Said}
+use Rattle.tn_said.specs.declared.said.Said.TheVariants.{Cases}
 use Rattle.tn_run.specs.Cases.{AreFailed, MayDiffer, TellsCases}
 use Rattle.tn_case_laws.specs.Laws.{HasOneAnswer, NoCaseFails, CasesArePassed}
 use Rattle.tn_case_laws.proofs.Cases.{each_case_has_one_answer}

@@ -7,25 +7,25 @@ use Rattle.tn_base.specs.Exchange.{NoneFails}
 use Rattle.tn_base.specs.Firm.{Firm}
 use Rattle.tn_base.proofs.ExchangeLemmas.{none_fails_from_exchange}
 use Rattle.tn_exchange.specs.Rows.{TableRows, firm_of_table}
-use Rattle.tn_plain_data.specs.declared.said.Fault.{Fault}
-use Rattle.tn_plain_data.specs.declared.ends.Ends.{Ends}
+use Rattle.tn_said.specs.declared.said.Fault.{Fault}
+use Rattle.tn_model.specs.declared.ends.Ends.{Ends}
 use Rattle.tn_names.specs.Names.{NameLists}
-use Rattle.tn_shape.specs.declared.members.FirmKind.TheVariants.{Table}
-use Rattle.tn_shape.specs.Members.{allows}
-use Rattle.tn_shape.specs.Claims.{allows_in_claim}
-use Rattle.tn_shape.specs.Reading.{each}
-use Rattle.tn_shape.specs.Shapes.{few_at, two_at, number_in, object_of}
-use Rattle.tn_plain_data.specs.Limits.{limits_of, limits_with}
+use Rattle.tn_read_shapes.specs.declared.members.FirmKind.TheVariants.{Table}
+use Rattle.tn_read_shapes.specs.Members.{allows}
+use Rattle.tn_read_shapes.specs.Claims.{allows_in_claim}
+use Rattle.tn_read_shapes.specs.Reading.{each}
+use Rattle.tn_read_shapes.specs.Shapes.{few_at, two_at, number_in, object_of}
+use Rattle.tn_model.specs.Limits.{limits_of, limits_with}
 use Rattle.tn_read_references.specs.Ordered.{Listed, sides_of}
 use Rattle.tn_read_references.specs.References.{firm_at, trade_at, new_trade, own_position, new_own, own_reference, bundle_at}
 use Rattle.tn_read_references.specs.Entries.{entry_of, one_entry}
 use Rattle.tn_read_head.specs.Listing.{limits_at, listed_of}
 use Rattle.tn_read_head.specs.Naming.{name_at, new_name, firm_name, trade_name, ends_at, one_trade}
-use Rattle.tn_read_firms.specs.Kinds.{kind_of, frame_of}
-use Rattle.tn_read_firms.specs.Tables.{row_of, one_row, full_if_large, rows_of, table_of}
+use Rattle.tn_read_firms.specs.Kinds.{firm_kind_of, firm_frame_of}
+use Rattle.tn_read_firms.specs.Tables.{table_row_of, one_row, full_if_large, rows_of, table_of}
 use Rattle.tn_read_firms.specs.OwnNumbers.{own_numbers}
 use Rattle.tn_read_firms.specs.Laminars.{laminar_of, sets_at, checked_laminar}
-use Rattle.tn_read_firms.specs.Firms.{exchange_of, tested_firm, firm_by, firm_of, one_firm}
+use Rattle.tn_read_firms.specs.Firms.{exchange_of, tested_firm, firm_by, document_firm, one_firm}
 use Rattle.tn_read_firms.proofs.FailureLemmas.{none}
 use Rattle.tn_read_parts.specs.Lists.{one_on, named_prices, prices_of, contracts_at}
 use Rattle.tn_read_parts.specs.Arranged.{on_of, trades_on_of, arrangement_of}
@@ -59,10 +59,10 @@ passes trades f table holds = rw (none table holds) refl
 
 -- where a firm is read as such a table, it is the table's firm
 pub table_read : (listed : Listed) (firms : List Firm) (value : Data) (table : TableRows)
-    → kind_of (length firms) value ≡ Ok Table → frame_of listed (length firms) Table value ≡ Ok tt
+    → firm_kind_of (length firms) value ≡ Ok Table → firm_frame_of listed (length firms) Table value ≡ Ok tt
     → firm_by true listed (length firms) Table value ≡ tested_firm true listed.ends (length firms) table
     → NoneFails (firm_of_table table) → one_firm true listed firms value ≡ Ok (firms ++ firm_of_table table ∷ [])
-unfolding one_firm firm_of
+unfolding one_firm document_firm
 table_read listed firms value table a b c holds = rw (a, b, c, passes listed.ends (length firms) table holds) refl
 
 pub two_read : (step : List Firm → Data → Result (List Firm) Fault) (d e : Data) (some all : List Firm)
@@ -88,14 +88,14 @@ abbrev buyer_data : Data
 buyer_data = Trees.table Trees.name_B (Trees.row (Trees.name_a ∷ []) (Trees.whole 5) ∷ [])
 
 buyer_read : (row : Option ℤ) → one_firm true deal_listed (seller row ∷ []) buyer_data ≡ Ok (deal_firms row)
-unfolding firm_by kind_of frame_of object_of allows sides_of table_of full_if_large rows_of each one_row row_of two_at
+unfolding firm_by firm_kind_of firm_frame_of object_of allows sides_of table_of full_if_large rows_of each one_row table_row_of two_at
     bundle_at own_reference new_own own_position trade_at number_in has toggle size size_below
 buyer_read row =
     table_read deal_listed (seller row ∷ []) buyer_data buyer_table refl refl refl
     (none_fails_from_exchange buyer buyer_meets)
 
 firms_3 : each (one_firm true deal_listed) [] (deal_items (Trees.asks (negsuc 2))) ≡ Ok (deal_firms asks_3)
-unfolding firm_by kind_of frame_of object_of allows sides_of table_of full_if_large rows_of each one_row row_of two_at
+unfolding firm_by firm_kind_of firm_frame_of object_of allows sides_of table_of full_if_large rows_of each one_row table_row_of two_at
     bundle_at own_reference new_own own_position trade_at number_in has toggle size size_below
 firms_3 = two_read (one_firm true deal_listed) (seller_data (Trees.asks (negsuc 2))) buyer_data (seller asks_3 ∷ [])
     (deal_firms asks_3)
@@ -103,7 +103,7 @@ firms_3 = two_read (one_firm true deal_listed) (seller_data (Trees.asks (negsuc 
     (none_fails_from_exchange (seller asks_3) meets_3)) (buyer_read asks_3)
 
 firms_5 : each (one_firm true deal_listed) [] (deal_items (Trees.asks (negsuc 4))) ≡ Ok (deal_firms asks_5)
-unfolding firm_by kind_of frame_of object_of allows sides_of table_of full_if_large rows_of each one_row row_of two_at
+unfolding firm_by firm_kind_of firm_frame_of object_of allows sides_of table_of full_if_large rows_of each one_row table_row_of two_at
     bundle_at own_reference new_own own_position trade_at number_in has toggle size size_below
 firms_5 = two_read (one_firm true deal_listed) (seller_data (Trees.asks (negsuc 4))) buyer_data (seller asks_5 ∷ [])
     (deal_firms asks_5)
@@ -111,7 +111,7 @@ firms_5 = two_read (one_firm true deal_listed) (seller_data (Trees.asks (negsuc 
     (none_fails_from_exchange (seller asks_5) meets_5)) (buyer_read asks_5)
 
 firms_none : each (one_firm true deal_listed) [] (deal_items []) ≡ Ok (deal_firms None)
-unfolding firm_by kind_of frame_of object_of allows sides_of table_of full_if_large rows_of each one_row row_of two_at
+unfolding firm_by firm_kind_of firm_frame_of object_of allows sides_of table_of full_if_large rows_of each one_row table_row_of two_at
     bundle_at own_reference new_own own_position trade_at number_in has toggle size size_below
 firms_none = two_read (one_firm true deal_listed) (seller_data []) buyer_data (seller None ∷ []) (deal_firms None)
     (table_read deal_listed [] (seller_data []) (seller_table None) refl refl refl
@@ -285,7 +285,7 @@ unfolding listed_of limits_at limits_of object_of allows few_at each firm_name n
 listed_3 = refl
 
 firms_idle : each (one_firm true idle_listed) [] (item idle_data (item idle_other no_items)) ≡ Ok idle_firms
-unfolding firm_by kind_of frame_of object_of allows sides_of table_of full_if_large rows_of each one_row row_of two_at
+unfolding firm_by firm_kind_of firm_frame_of object_of allows sides_of table_of full_if_large rows_of each one_row table_row_of two_at
     bundle_at own_reference new_own own_position trade_at number_in has toggle size size_below
 firms_idle = two_read (one_firm true idle_listed) idle_data idle_other (idle (Some (pos 7)) ∷ []) idle_firms
     (table_read idle_listed [] idle_data (idle_table (Some (pos 7))) refl refl refl
@@ -316,15 +316,15 @@ document_4 = record { names = listed_at_4.names; firms = both_firms; ends = both
 
 listed_4 : listed_of Trees.top_4 ≡ Ok (listed_at_4, items_of Trees.firms_4)
 unfolding listed_of limits_at limits_of few_at firm_name new_name name_at trade_name ends_at firm_at one_trade one_firm
-    firm_of firm_by tested_firm kind_of frame_of object_of allows sides_of table_of full_if_large rows_of each one_row
-    row_of laminar_of own_numbers sets_at checked_laminar one_entry entry_of two_at bundle_at own_reference new_own
+    document_firm firm_by tested_firm firm_kind_of firm_frame_of object_of allows sides_of table_of full_if_large rows_of each one_row
+    table_row_of laminar_of own_numbers sets_at checked_laminar one_entry entry_of two_at bundle_at own_reference new_own
     own_position trade_at number_in has toggle size size_below
 listed_4 = refl
 
 firms_4_are : each (one_firm false listed_at_4) [] (items_of Trees.firms_4) ≡ Ok both_firms
 unfolding listed_of limits_at limits_of few_at firm_name new_name name_at trade_name ends_at firm_at one_trade one_firm
-    firm_of firm_by tested_firm kind_of frame_of object_of allows sides_of table_of full_if_large rows_of each one_row
-    row_of laminar_of own_numbers sets_at checked_laminar one_entry entry_of two_at bundle_at own_reference new_own
+    document_firm firm_by tested_firm firm_kind_of firm_frame_of object_of allows sides_of table_of full_if_large rows_of each one_row
+    table_row_of laminar_of own_numbers sets_at checked_laminar one_entry entry_of two_at bundle_at own_reference new_own
     own_position trade_at number_in has toggle size size_below
 firms_4_are = refl
 
@@ -350,15 +350,15 @@ document_5 = record { names = listed_at_5.names; firms = dealer_firms; ends = de
 
 listed_5 : listed_of Trees.top_5 ≡ Ok (listed_at_5, items_of Trees.firms_5)
 unfolding listed_of limits_at limits_of few_at firm_name new_name name_at trade_name ends_at firm_at one_trade one_firm
-    firm_of firm_by tested_firm kind_of frame_of object_of allows sides_of table_of full_if_large rows_of each one_row
-    row_of laminar_of own_numbers sets_at checked_laminar one_entry entry_of two_at bundle_at own_reference new_own
+    document_firm firm_by tested_firm firm_kind_of firm_frame_of object_of allows sides_of table_of full_if_large rows_of each one_row
+    table_row_of laminar_of own_numbers sets_at checked_laminar one_entry entry_of two_at bundle_at own_reference new_own
     own_position trade_at number_in has toggle size size_below
 listed_5 = refl
 
 firms_5_are : each (one_firm false listed_at_5) [] (items_of Trees.firms_5) ≡ Ok dealer_firms
 unfolding listed_of limits_at limits_of few_at firm_name new_name name_at trade_name ends_at firm_at one_trade one_firm
-    firm_of firm_by tested_firm kind_of frame_of object_of allows sides_of table_of full_if_large rows_of each one_row
-    row_of laminar_of own_numbers sets_at checked_laminar one_entry entry_of two_at bundle_at own_reference new_own
+    document_firm firm_by tested_firm firm_kind_of firm_frame_of object_of allows sides_of table_of full_if_large rows_of each one_row
+    table_row_of laminar_of own_numbers sets_at checked_laminar one_entry entry_of two_at bundle_at own_reference new_own
     own_position trade_at number_in has toggle size size_below
 firms_5_are = refl
 
@@ -387,15 +387,15 @@ document_6 = record { names = listed_at_6.names; firms = tied_firms; ends = tied
 
 listed_6 : listed_of Trees.top_6 ≡ Ok (listed_at_6, items_of Trees.firms_6)
 unfolding listed_of limits_at limits_of few_at firm_name new_name name_at trade_name ends_at firm_at one_trade one_firm
-    firm_of firm_by tested_firm kind_of frame_of object_of allows sides_of table_of full_if_large rows_of each one_row
-    row_of laminar_of own_numbers sets_at checked_laminar one_entry entry_of two_at bundle_at own_reference new_own
+    document_firm firm_by tested_firm firm_kind_of firm_frame_of object_of allows sides_of table_of full_if_large rows_of each one_row
+    table_row_of laminar_of own_numbers sets_at checked_laminar one_entry entry_of two_at bundle_at own_reference new_own
     own_position trade_at number_in has toggle size size_below
 listed_6 = refl
 
 firms_6_are : each (one_firm false listed_at_6) [] (items_of Trees.firms_6) ≡ Ok tied_firms
 unfolding listed_of limits_at limits_of few_at firm_name new_name name_at trade_name ends_at firm_at one_trade one_firm
-    firm_of firm_by tested_firm kind_of frame_of object_of allows sides_of table_of full_if_large rows_of each one_row
-    row_of laminar_of own_numbers sets_at checked_laminar one_entry entry_of two_at bundle_at own_reference new_own
+    document_firm firm_by tested_firm firm_kind_of firm_frame_of object_of allows sides_of table_of full_if_large rows_of each one_row
+    table_row_of laminar_of own_numbers sets_at checked_laminar one_entry entry_of two_at bundle_at own_reference new_own
     own_position trade_at number_in has toggle size size_below
 firms_6_are = refl
 

@@ -7,16 +7,16 @@ use Rattle.tn_base.specs.Sets.{has, sum_over, toggle, set_of}
 use Rattle.tn_base.proofs.SetLemmas.{has-zero}
 use Rattle.tn_exchange.specs.Rows.{worth_in}
 use Rattle.tn_cert.specs.Reasons.{Refutes, IsFirstToLeave}
-use Rattle.tn_command.specs.Claimed.{DecidesClaim}
-use Rattle.tn_plain_data.specs.declared.claim.Claim.{Claim}
-use Rattle.tn_plain_data.specs.declared.claim.Claim.TheVariants.{Blocks as BlocksIs}
-use Rattle.tn_plain_data.specs.declared.contract.Contract.{Contract}
-use Rattle.tn_plain_data.specs.declared.contract.Outcome.{Outcome}
-use Rattle.tn_plain_data.specs.declared.reason.Reason.{Reason}
-use Rattle.tn_plain_data.specs.declared.reason.Reason.TheVariants.{Empty, Signed, Choice}
-use Rattle.tn_plain_data.specs.declared.said.Said.{Said}
-use Rattle.tn_plain_data.specs.declared.said.Said.TheVariants.{Valid, Invalid}
-use Rattle.tn_plain_data.specs.Choices.{IsChoice, together}
+use Rattle.tn_commands.specs.Replay.{DecidesClaim}
+use Rattle.tn_said.specs.declared.claim.Claim.{Claim}
+use Rattle.tn_said.specs.declared.claim.Claim.TheVariants.{Blocks as BlocksIs}
+use Rattle.tn_model.specs.declared.contract.Contract.{Contract}
+use Rattle.tn_model.specs.declared.contract.Outcome.{Outcome}
+use Rattle.tn_said.specs.declared.reason.Reason.{Reason}
+use Rattle.tn_said.specs.declared.reason.Reason.TheVariants.{Empty, Signed, Choice}
+use Rattle.tn_said.specs.declared.said.Said.{Said}
+use Rattle.tn_said.specs.declared.said.Said.TheVariants.{Valid, Invalid}
+use Rattle.tn_model.specs.Choices.{IsChoice, together}
 use Rattle.tn_case_laws.proofs.Decided.{all_below}
 use Rattle.tn_case_laws.proofs.Deal.{asks_3, seller, deal_firms, deal_trades}
 use Rattle.tn_case_laws.proofs.Judged.{at_9, choice_by, one_part}

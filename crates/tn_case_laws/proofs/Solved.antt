@@ -7,13 +7,13 @@ use Rattle.tn_base.specs.Firm.{Firm, up, net}
 use Rattle.tn_base.specs.Exchange.{MeetsExchange}
 use Rattle.tn_exchange.specs.Rows.{TableRows, firm_of_table, worth_in}
 use Rattle.tn_exchange.proofs.RowLemmas.{own_bundles}
-use Rattle.tn_command.specs.Solved.{Solves}
-use Rattle.tn_command.proofs.CheckLemmas.{implied_by}
-use Rattle.tn_plain_data.specs.declared.ends.Ends.{Ends}
-use Rattle.tn_plain_data.specs.declared.said.Said.{Said}
-use Rattle.tn_plain_data.specs.declared.said.Said.TheVariants.{Solved}
-use Rattle.tn_plain_data.specs.Prices.{price_at}
-use Rattle.tn_plain_data.specs.Network.{IsNetwork}
+use Rattle.tn_commands.specs.Solve.{Solves}
+use Rattle.tn_commands.proofs.CheckLemmas.{implied_by}
+use Rattle.tn_model.specs.declared.ends.Ends.{Ends}
+use Rattle.tn_said.specs.declared.said.Said.{Said}
+use Rattle.tn_said.specs.declared.said.Said.TheVariants.{Solved}
+use Rattle.tn_model.specs.Prices.{price_at}
+use Rattle.tn_model.specs.Network.{IsNetwork}
 use Rattle.tn_market.specs.Equilibrium.{utility_at, HasBest, IsEquilibrium, surplus_of}
 use Rattle.tn_case_laws.proofs.Decided.{all_below, some_below, meets}
 use Rattle.tn_case_laws.proofs.Finite.{best_by, own_utilities, two_firms}

@@ -9,14 +9,14 @@ use Rattle.tn_base.specs.Sets.{has, sum_over, toggle, set_of}
 use Rattle.tn_base.specs.Options.{both}
 use Rattle.tn_base.specs.Walks.{walk_cost, AreDifferent}
 use Rattle.tn_exchange.specs.Rows.{worth_in}
-use Rattle.tn_plain_data.specs.declared.said.Said.{Said}
-use Rattle.tn_plain_data.specs.declared.said.Said.TheVariants.{Impossible, Supported, Cycle}
-use Rattle.tn_plain_data.specs.Prices.{price_at}
-use Rattle.tn_plain_data.specs.Network.{part}
+use Rattle.tn_said.specs.declared.said.Said.{Said}
+use Rattle.tn_said.specs.declared.said.Said.TheVariants.{Impossible, Supported, Cycle}
+use Rattle.tn_model.specs.Prices.{price_at}
+use Rattle.tn_model.specs.Network.{part}
 use Rattle.tn_market.specs.Graph.{exchange_arc, ArePossible}
 use Rattle.tn_market.proofs.GraphLemmas.{arc_within}
 use Rattle.tn_market.specs.Supported.{IsFirstUnable, IsNegativeCycle, said_node}
-use Rattle.tn_command.specs.Supported.{SupportsSet}
+use Rattle.tn_commands.specs.Support.{SupportsSet}
 use Rattle.tn_price.specs.Supports.{IsUnsupported}
 use Rattle.tn_case_laws.proofs.Finite.{two_firms}
 use Rattle.tn_case_laws.proofs.Deal.{asks_3, buyer, seller, deal_firms, deal_trades, off_at_least_5, off_at_most_3}

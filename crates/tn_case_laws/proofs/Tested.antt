@@ -12,22 +12,22 @@ use Rattle.tn_base.proofs.ExchangeLemmas.{none_fails_from_exchange}
 use Rattle.tn_base.proofs.SetLemmas.{has-zero, has_below}
 use Rattle.tn_cert.specs.Reasons.{IsFirstToFail}
 use Rattle.tn_exchange.specs.Rows.{TableRows, firm_of_table, worth_in}
-use Rattle.tn_exchange.specs.TestOrder.{Triple, IsBefore, IsEarlier, TripleFails, IsFirstFailure}
+use Rattle.tn_exchange.specs.TestOrder.{Triple, IsTestedBefore, IsEarlier, TripleFails, IsFirstFailure}
 use Rattle.tn_exchange.proofs.RowLemmas.{own_bundles}
 use Rattle.tn_local.specs.First.{IsFirstTriple}
 use Rattle.tn_local.proofs.FirstLemmas.{triple_fails}
 use Rattle.tn_laminar.specs.Sum.{laminar_firm}
-use Rattle.tn_plain_data.specs.declared.ends.Ends.{Ends}
-use Rattle.tn_plain_data.specs.declared.said.Said.{Said}
-use Rattle.tn_plain_data.specs.declared.said.Said.TheVariants.{Accepted, ExchangeFails}
-use Rattle.tn_plain_data.specs.Network.{own, trades_of}
-use Rattle.tn_run.specs.Tested.{Tests}
+use Rattle.tn_model.specs.declared.ends.Ends.{Ends}
+use Rattle.tn_said.specs.declared.said.Said.{Said}
+use Rattle.tn_said.specs.declared.said.Said.TheVariants.{Accepted, ExchangeFails}
+use Rattle.tn_model.specs.Network.{own, trades_of}
+use Rattle.tn_raw_answers.specs.Test.{Tests}
 use Rattle.tn_case_laws.proofs.Decided.{all_below, some_below, each_below, exchanges_at, holds_at, never_at, never_fails_at, meets}
 use Rattle.tn_case_laws.proofs.Finite.{three_firms}
 
 -- ---- a firm has one first failing triple
 
-before_or_after : (a b : Option ℕ) → (a ≡ b) ⊎ (IsBefore a b ⊎ IsBefore b a)
+before_or_after : (a b : Option ℕ) → (a ≡ b) ⊎ (IsTestedBefore a b ⊎ IsTestedBefore b a)
 before_or_after (Some i) (Some j) = elim (cases_order i j) [
   | inl e ↦ inl (ap (λ (k : ℕ). Some k) e)
   | inr other ↦
@@ -40,7 +40,7 @@ before_or_after None None = inl refl
 earlier_or_later : (s t : Triple) → (s ≡ t) ⊎ (IsEarlier s t ⊎ IsEarlier t s)
 earlier_or_later s t = by_x (cases_order s.x t.x)
   where
-    by_at : s.x ≡ t.x → s.y ≡ t.y → (s.at ≡ t.at) ⊎ (IsBefore s.at t.at ⊎ IsBefore t.at s.at) → (s ≡ t)
+    by_at : s.x ≡ t.x → s.y ≡ t.y → (s.at ≡ t.at) ⊎ (IsTestedBefore s.at t.at ⊎ IsTestedBefore t.at s.at) → (s ≡ t)
         ⊎ (IsEarlier s t ⊎ IsEarlier t s)
     by_at same_x same_y (inl same) = inl (λ i. record { x = same_x i; y = same_y i; at = same i })
     by_at same_x same_y (inr (inl before)) = inr (inl (inr (same_x, inr (same_y, before))))
@@ -199,7 +199,7 @@ none_before s (inl above) f =
 none_before s (inr (same, inl below)) f = omega (arith, below)
 none_before s (inr (same, inr (same_y, before))) f = by s.at before
   where
-    by : (at : Option ℕ) → IsBefore at (Some 0) → ⊥
+    by : (at : Option ℕ) → IsTestedBefore at (Some 0) → ⊥
     by (Some i) below = omega (arith, below)
     by None never = never
 
@@ -363,7 +363,7 @@ none_earlier s (inr (same, inl below)) f =
 none_earlier s (inr (same, inr (same_y, before))) f =
     by s.at before (subst (λ y. Fails tied 10 y s.at) same_y (subst (λ x. Fails tied x s.y s.at) same f))
   where
-    by : (at : Option ℕ) → IsBefore at (Some 1) → Fails tied 10 5 at → ⊥
+    by : (at : Option ℕ) → IsTestedBefore at (Some 1) → Fails tied 10 5 at → ⊥
     by (Some zero) below fails =
         never_at tied (own_bundles tied_table) 10 5 0 (pos 5) (pos 5) tied_ten tied_five first_holds fails
     by (Some (suc i)) below fails = omega (arith, below)

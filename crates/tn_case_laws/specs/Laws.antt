@@ -2,8 +2,8 @@
 use Rattle.std.specs.Prelude.{◌≡◌, ℕ, ◌⊎◌, List, [], slice_get, Some}
 use Rattle.tn_cases.specs.Book.{cases_of_the_book}
 use Rattle.tn_cases.specs.Case.{CaseData}
-use Rattle.tn_plain_data.specs.declared.said.Said.{Said}
-use Rattle.tn_plain_data.specs.declared.said.Said.TheVariants.{NoMemory, Cases}
+use Rattle.tn_said.specs.declared.said.Said.{Said}
+use Rattle.tn_said.specs.declared.said.Said.TheVariants.{NoMemory, Cases}
 use Rattle.tn_run.specs.Cases.{IsAllowed, AreFailed, MayBeCases}
 
 -- the status and the text of the case are allowed, and no others are

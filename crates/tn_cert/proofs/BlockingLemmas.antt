@@ -8,17 +8,17 @@ use Rattle.std.proofs.lemmas.Bool.{cases_eq, cases_lt, eqb-true, eq-eqb, true≢
 use Rattle.std.proofs.lemmas.Option.{same_Some, slice_get_within}
 use Rattle.tn_base.specs.Arcs.{IsAtMost}
 use Rattle.tn_market.specs.Widths.{most_scale}
-use Rattle.tn_plain_data.specs.Limits.{most_claimed_over, most_number, most_over}
+use Rattle.tn_model.specs.Limits.{most_claimed_over, most_number, most_over}
 use Rattle.tn_base.specs.Firm.{Firm}
-use Rattle.tn_law.proofs.BoundLemmas.{times_small}
-use Rattle.tn_law.proofs.KeepLemmas.{times-le}
-use Rattle.tn_plain_data.specs.declared.contract.Contract.{Contract}
-use Rattle.tn_plain_data.specs.declared.contract.Outcome.{Outcome}
-use Rattle.tn_plain_data.specs.declared.ends.Ends.{Ends}
-use Rattle.tn_plain_data.specs.Choices.{is_of, together, IsFeasible, Blocks}
+use Rattle.tn_firm_laws.proofs.BoundLemmas.{times_small}
+use Rattle.tn_firm_laws.proofs.KeepLemmas.{times-le}
+use Rattle.tn_model.specs.declared.contract.Contract.{Contract}
+use Rattle.tn_model.specs.declared.contract.Outcome.{Outcome}
+use Rattle.tn_model.specs.declared.ends.Ends.{Ends}
+use Rattle.tn_model.specs.Choices.{is_of, together, IsFeasible, Blocks}
 use Rattle.tn_market.specs.Signed.{signed_price}
-use Rattle.tn_network.proofs.PoolLemmas.{offer_in_pool}
-use Rattle.tn_outcome.proofs.SignedLemmas.{signed_by, price_of_contract}
+use Rattle.tn_network_laws.proofs.PoolLemmas.{offer_in_pool}
+use Rattle.tn_outcome_laws.proofs.SignedLemmas.{signed_by, price_of_contract}
 use Rattle.tn_residual.specs.Held.{contract_price}
 use Rattle.tn_residual.proofs.HeldLemmas.{price_is, price_some, price_not}
 use Rattle.tn_cert.specs.Least.{earlier}

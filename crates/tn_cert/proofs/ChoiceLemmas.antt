@@ -10,20 +10,20 @@ use Rattle.tn_base.specs.Sets.{has, set_of, sum_over}
 use Rattle.tn_base.specs.Firm.{Firm, payments, utility}
 use Rattle.tn_base.proofs.SetLemmas.{same_below, has-set_of, has_above, has_below, set_of_within, within_from}
 use Rattle.tn_base.proofs.SumLemmas.{sum_over-same_terms}
-use Rattle.tn_law.proofs.KeepLemmas.{option_map-some}
-use Rattle.tn_plain_data.specs.declared.contract.Contract.{Contract}
-use Rattle.tn_plain_data.specs.declared.ends.Ends.{Ends}
+use Rattle.tn_firm_laws.proofs.KeepLemmas.{option_map-some}
+use Rattle.tn_model.specs.declared.contract.Contract.{Contract}
+use Rattle.tn_model.specs.declared.ends.Ends.{Ends}
 use Rattle.tn_market.specs.Best.{IsSubset, IsBestBetween}
-use Rattle.tn_plain_data.specs.Prices.{price_at}
-use Rattle.tn_plain_data.specs.Choices.{is_of, paid_to, paid_by, payment, is_traded, bundle_by, part_utility, IsPart}
+use Rattle.tn_model.specs.Prices.{price_at}
+use Rattle.tn_model.specs.Choices.{is_of, paid_to, paid_by, payment, is_traded, bundle_by, part_utility, IsPart}
 use Rattle.tn_market.specs.Equilibrium.{prices_at, utility_at}
-use Rattle.tn_plain_data.specs.Network.{own, stands_at, IsNetwork}
-use Rattle.tn_plain_data.proofs.NetworkLemmas.{own_stands}
-use Rattle.tn_network.proofs.PartLemmas.{at_place, at_place-is, gain_by, own_contract, own_once, paid_for, part_paid, traded_at, traded_by}
-use Rattle.tn_network.proofs.StabilityLemmas.{no_gains, own_is_of}
-use Rattle.tn_outcome.proofs.RationalLemmas.{between_signed, inside_signed}
+use Rattle.tn_model.specs.Network.{own, stands_at, IsNetwork}
+use Rattle.tn_model.proofs.NetworkLemmas.{own_stands}
+use Rattle.tn_network_laws.proofs.PartLemmas.{at_place, at_place-is, gain_by, own_contract, own_once, paid_for, part_paid, traded_at, traded_by}
+use Rattle.tn_network_laws.proofs.StabilityLemmas.{no_gains, own_is_of}
+use Rattle.tn_outcome_laws.proofs.RationalLemmas.{between_signed, inside_signed}
 use Rattle.tn_cert.specs.Greatest.{LeavesOut, IsGreatest}
-use Rattle.tn_cert.specs.Terms.{is_bought, IsAsGood, IsOffered, HasTerms}
+use Rattle.tn_cert.specs.Terms.{is_bought, IsAsGood, IsOnTrade, HasTerms}
 
 -- a firm of a network
 pub record IsChooser (firms : List Firm) (trades : List Ends) (f : ℕ) (firm : Firm) : Type 0 where
@@ -135,7 +135,7 @@ at_terms : (firms : List Firm) (trades : List Ends) (f : ℕ) (firm : Firm) → 
     → IsAtTerms firm trades f free list contract
 at_terms firms trades f firm chooser contracts left_out free list holds k contract there of kept =
     let owned = own_contract firms trades chooser.network f firm chooser.is contract of in
-    let offered : IsOffered contracts left_out (own trades f owned.place) k contract =
+    let offered : IsOnTrade contracts left_out (own trades f owned.place) k contract =
     record { is = there; trade = sym owned.owns; kept = kept } in
     elim (cases_Bool (has free owned.place)) [
       | inr away ↦ absurd (holds.none owned.place owned.inside away k contract offered)

@@ -9,11 +9,11 @@ use Rattle.std.proofs.lemmas.List.Elements.{All-append, All-weaker}
 use Rattle.std.proofs.lemmas.Option.{slice_get_within, get_or_from_slice_get, slice_get-get_or}
 use Rattle.tn_base.specs.Arcs.{IsAtMost}
 use Rattle.tn_market.specs.Widths.{most_asked_price}
-use Rattle.tn_plain_data.specs.Limits.{most_claimed_over, most_number, most_numerator, most_over}
-use Rattle.tn_law.proofs.BoundLemmas.{times_small}
-use Rattle.tn_plain_data.specs.declared.contract.Contract.{Contract}
-use Rattle.tn_plain_data.specs.Choices.{counted, together}
-use Rattle.tn_network.proofs.PoolLemmas.{counted_at}
+use Rattle.tn_model.specs.Limits.{most_claimed_over, most_number, most_numerator, most_over}
+use Rattle.tn_firm_laws.proofs.BoundLemmas.{times_small}
+use Rattle.tn_model.specs.declared.contract.Contract.{Contract}
+use Rattle.tn_model.specs.Choices.{counted, together}
+use Rattle.tn_network_laws.proofs.PoolLemmas.{counted_at}
 
 -- the contracts counted so far, with one more
 pub counted_more : (times : ℤ) (contracts items now : List Contract) (k : ℕ) (contract next : Contract)

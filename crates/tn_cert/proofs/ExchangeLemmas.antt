@@ -17,9 +17,9 @@ use Rattle.tn_firm.specs.declared.value.FirmValue.TheVariants.{Laminar as Lamina
 use Rattle.tn_firm.specs.FirmLemmas.{firm_laws}
 use Rattle.tn_firm.specs.Raw.{raw_firm_of}
 use Rattle.tn_local.specs.First.{IsFirstTriple}
-use Rattle.tn_plain_data.specs.declared.ends.Ends.{Ends}
+use Rattle.tn_model.specs.declared.ends.Ends.{Ends}
 use Rattle.tn_market.specs.Lawful.{IsLawful}
-use Rattle.tn_plain_data.specs.Network.{own, trades_of, trades_on}
+use Rattle.tn_model.specs.Network.{own, trades_of, trades_on}
 use Rattle.tn_price.proofs.JudgeLemmas.{firm_is}
 use Rattle.tn_cert.specs.Reasons.{MeetBefore, IsFirstToFail}
 

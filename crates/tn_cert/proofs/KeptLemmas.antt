@@ -5,12 +5,12 @@ use Rattle.std.proofs.lemmas.Option.{same_Some, slice_get_cases, slice_get-map}
 use Rattle.tn_base.specs.Sets.{has, sum_over}
 use Rattle.tn_base.specs.Firm.{Firm, payments}
 use Rattle.tn_base.proofs.SetLemmas.{has_below}
-use Rattle.tn_plain_data.specs.declared.claim.Claim.TheVariants.{Drops}
-use Rattle.tn_plain_data.specs.declared.contract.Contract.{Contract}
-use Rattle.tn_plain_data.specs.declared.contract.Outcome.{Outcome}
-use Rattle.tn_plain_data.specs.declared.ends.Ends.{Ends}
+use Rattle.tn_said.specs.declared.claim.Claim.TheVariants.{Drops}
+use Rattle.tn_model.specs.declared.contract.Contract.{Contract}
+use Rattle.tn_model.specs.declared.contract.Outcome.{Outcome}
+use Rattle.tn_model.specs.declared.ends.Ends.{Ends}
 use Rattle.tn_market.specs.Equilibrium.{prices_at}
-use Rattle.tn_plain_data.specs.Network.{own}
+use Rattle.tn_model.specs.Network.{own}
 use Rattle.tn_market.specs.Signed.{is_signed, signed_price, signed_bundle, contract_utility}
 use Rattle.tn_market.proofs.AskLemmas.{possible_worth, impossible_worth}
 use Rattle.tn_cert.specs.declared.replayed.Replayed.{Replayed}

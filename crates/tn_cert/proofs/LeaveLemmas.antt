@@ -6,9 +6,9 @@ use Rattle.std.proofs.lemmas.Bool.{cases_Bool, true≢false}
 use Rattle.std.proofs.lemmas.Option.{same_Some}
 use Rattle.tn_base.specs.Sets.{has}
 use Rattle.tn_base.specs.Firm.{Firm}
-use Rattle.tn_plain_data.specs.declared.contract.Contract.{Contract}
-use Rattle.tn_plain_data.specs.declared.ends.Ends.{Ends}
-use Rattle.tn_plain_data.specs.Choices.{IsChoice}
+use Rattle.tn_model.specs.declared.contract.Contract.{Contract}
+use Rattle.tn_model.specs.declared.ends.Ends.{Ends}
+use Rattle.tn_model.specs.Choices.{IsChoice}
 use Rattle.tn_cert.specs.Least.{earlier}
 use Rattle.tn_cert.specs.Greatest.{LeavesOut, IsGreatest, MayLeave, DecidesLeave, DecidesOwn}
 use Rattle.tn_cert.proofs.LeastLemmas.{FindsLeast, least_passes, least_fails}

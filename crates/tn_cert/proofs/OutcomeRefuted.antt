@@ -4,15 +4,15 @@ use Rattle.std.specs.Prelude.{IfSome, is_some, ◌-ℤ◌}
 use Rattle.std.proofs.lemmas.Bool.{true≢false}
 use Rattle.std.proofs.lemmas.Option.{same_Some}
 use Rattle.tn_base.specs.Firm.{Firm}
-use Rattle.tn_plain_data.specs.declared.claim.Claim.TheVariants.{Drops, Completes as CompletesIs, Blocks as BlocksIs}
-use Rattle.tn_plain_data.specs.declared.contract.Contract.{Contract as ContractOf}
-use Rattle.tn_plain_data.specs.declared.contract.Outcome.{Outcome}
-use Rattle.tn_plain_data.specs.declared.ends.Ends.{Ends}
-use Rattle.tn_plain_data.specs.declared.reason.Reason.{Reason}
-use Rattle.tn_plain_data.specs.declared.reason.Reason.TheVariants.{Impossible, Better, Gain, Contract, Over, Price, Empty, Signed, Choice}
-use Rattle.tn_plain_data.specs.ClaimLimits.{IsFirmWith}
+use Rattle.tn_said.specs.declared.claim.Claim.TheVariants.{Drops, Completes as CompletesIs, Blocks as BlocksIs}
+use Rattle.tn_model.specs.declared.contract.Contract.{Contract as ContractOf}
+use Rattle.tn_model.specs.declared.contract.Outcome.{Outcome}
+use Rattle.tn_model.specs.declared.ends.Ends.{Ends}
+use Rattle.tn_said.specs.declared.reason.Reason.{Reason}
+use Rattle.tn_said.specs.declared.reason.Reason.TheVariants.{Impossible, Better, Gain, Contract, Over, Price, Empty, Signed, Choice}
+use Rattle.tn_said.specs.ClaimLimits.{IsFirmWith}
 use Rattle.tn_market.specs.Signed.{signed, is_signed, signed_price, signed_bundle}
-use Rattle.tn_plain_data.specs.Prices.{price_at}
+use Rattle.tn_model.specs.Prices.{price_at}
 use Rattle.tn_cert.proofs.RefutedLemmas.{lack_refuted, no_utility}
 use Rattle.tn_cert.specs.Claims.{GainsByKeeping, IsPositive, IsValid}
 use Rattle.tn_cert.specs.Reasons.{RefutesBlocks, RefutesCompletes, RefutesDrops}

@@ -9,16 +9,16 @@ use Rattle.tn_base.specs.Sets.{has, set_of, sum_over, toggle}
 use Rattle.tn_base.specs.Firm.{Firm, IsBest, payments}
 use Rattle.tn_base.proofs.SetLemmas.{has-set_of, set_of_within}
 use Rattle.tn_base.proofs.SumLemmas.{sum_over-empty, times-plus}
-use Rattle.tn_law.proofs.KeepLemmas.{option_map-some, times-le}
-use Rattle.tn_plain_data.specs.declared.ends.Ends.{Ends}
-use Rattle.tn_plain_data.specs.declared.part.Part.{Part}
-use Rattle.tn_plain_data.specs.Network.{own, part, IsNetwork}
-use Rattle.tn_plain_data.proofs.NetworkLemmas.{own_stands}
+use Rattle.tn_firm_laws.proofs.KeepLemmas.{option_map-some, times-le}
+use Rattle.tn_model.specs.declared.ends.Ends.{Ends}
+use Rattle.tn_said.specs.declared.part.Part.{Part}
+use Rattle.tn_model.specs.Network.{own, part, IsNetwork}
+use Rattle.tn_model.proofs.NetworkLemmas.{own_stands}
 use Rattle.tn_market.specs.Equilibrium.{prices_at, utility_at, HasBest, surplus_from}
-use Rattle.tn_network.proofs.SumLemmas.{sum_to, sum_to-same, AllFrom, all_from, sum_list, sum_list-same, sum_list-none}
-use Rattle.tn_network.proofs.StabilityLemmas.{times-neg, times-times}
-use Rattle.tn_network.proofs.WelfareLemmas.{at_side, ends_total, paid, paid_cancels, le_from_times}
-use Rattle.tn_cert.specs.Plans.{over_parts, share_of, weight_at, worth_in, planned_worth, planned_from, HasPossibleParts, IsBalanced, IsPlanAgainst, HaveNoPrices, PlansBarPrices}
+use Rattle.tn_network_laws.proofs.SumLemmas.{sum_to, sum_to-same, AllFrom, all_from, sum_list, sum_list-same, sum_list-none}
+use Rattle.tn_network_laws.proofs.StabilityLemmas.{times-neg, times-times}
+use Rattle.tn_network_laws.proofs.WelfareLemmas.{at_side, ends_total, paid, paid_cancels, le_from_times}
+use Rattle.tn_cert.specs.Plans.{over_parts, share_of, weight_at, worth_or_zero, planned_worth, planned_from, HasPossibleParts, IsBalanced, IsPlanAgainst, HaveNoPrices, PlansBarPrices}
 
 -- ---- sums over parts
 
@@ -198,24 +198,24 @@ firm_below : (trades : List Ends) (scale : ℤ) (on : ℕ) (prices : ℕ
 firm_below trades scale on prices plan over f firm weighed holds =
     let value : ℤ = holds.best.0 in
     let pay : ℕ → ℤ = paid_for trades prices f firm in
-    let parts : ℤ = over_parts (λ p. p.weight *ℤ worth_in firm p.bundle) f plan in
+    let parts : ℤ = over_parts (λ p. p.weight *ℤ worth_or_zero firm p.bundle) f plan in
     let rest : ℤ = over -ℤ share_of plan f in
     let share = holds.share in
-    let below = over_parts-le (λ p. p.weight *ℤ (scale *ℤ worth_in firm p.bundle +ℤ pay p.bundle))
+    let below = over_parts-le (λ p. p.weight *ℤ (scale *ℤ worth_or_zero firm p.bundle +ℤ pay p.bundle))
     (λ p. p.weight *ℤ value) f plan (λ k p is own.
-    times-le p.weight (scale *ℤ worth_in firm p.bundle +ℤ pay p.bundle) value (weighed k p is)
-    (holds.best.1.most p.bundle (scale *ℤ worth_in firm p.bundle +ℤ pay p.bundle)
+    times-le p.weight (scale *ℤ worth_or_zero firm p.bundle +ℤ pay p.bundle) value (weighed k p is)
+    (holds.best.1.most p.bundle (scale *ℤ worth_or_zero firm p.bundle +ℤ pay p.bundle)
     (ap (option_map (λ a. scale *ℤ a +ℤ pay p.bundle)) (some_worth (firm.worth p.bundle) (holds.possible k p is own)))))
     in
-    let left : over_parts (λ p. p.weight *ℤ (scale *ℤ worth_in firm p.bundle +ℤ pay p.bundle)) f plan ≡ scale *ℤ parts
+    let left : over_parts (λ p. p.weight *ℤ (scale *ℤ worth_or_zero firm p.bundle +ℤ pay p.bundle)) f plan ≡ scale *ℤ parts
     +ℤ paid_in_parts trades prices plan f firm =
-    over_parts-same (λ p. p.weight *ℤ (scale *ℤ worth_in firm p.bundle +ℤ pay p.bundle))
-    (λ p. scale *ℤ (p.weight *ℤ worth_in firm p.bundle) +ℤ p.weight *ℤ pay p.bundle) f plan
-    (λ p. times-plus p.weight (scale *ℤ worth_in firm p.bundle) (pay p.bundle)
-    ∙ ap (λ (z : ℤ). z +ℤ p.weight *ℤ pay p.bundle) (swapped p.weight scale (worth_in firm p.bundle)))
-    ∙ over_parts-plus (λ p. scale *ℤ (p.weight *ℤ worth_in firm p.bundle)) (λ p. p.weight *ℤ pay p.bundle) f plan
+    over_parts-same (λ p. p.weight *ℤ (scale *ℤ worth_or_zero firm p.bundle +ℤ pay p.bundle))
+    (λ p. scale *ℤ (p.weight *ℤ worth_or_zero firm p.bundle) +ℤ p.weight *ℤ pay p.bundle) f plan
+    (λ p. times-plus p.weight (scale *ℤ worth_or_zero firm p.bundle) (pay p.bundle)
+    ∙ ap (λ (z : ℤ). z +ℤ p.weight *ℤ pay p.bundle) (swapped p.weight scale (worth_or_zero firm p.bundle)))
+    ∙ over_parts-plus (λ p. scale *ℤ (p.weight *ℤ worth_or_zero firm p.bundle)) (λ p. p.weight *ℤ pay p.bundle) f plan
     ∙ ap (λ (z : ℤ). z +ℤ paid_in_parts trades prices plan f firm)
-    (over_parts-times scale (λ p. p.weight *ℤ worth_in firm p.bundle) f plan) in
+    (over_parts-times scale (λ p. p.weight *ℤ worth_or_zero firm p.bundle) f plan) in
     let right : over_parts (λ p. p.weight *ℤ value) f plan ≡ value *ℤ share_of plan f =
     over_parts-same (λ p. p.weight *ℤ value) (λ p. value *ℤ p.weight) f plan (λ p. *ℤ_comm p.weight value)
     ∙ over_parts-times value (λ p. p.weight) f plan in
@@ -225,10 +225,10 @@ firm_below trades scale on prices plan over f firm weighed holds =
     let empty_below =
     times-le rest (scale *ℤ holds.empty) value (omega (arith, ints, share))
     (without (scale *ℤ holds.empty) (pay 0) value none empty) in
-    let rest_left : scale *ℤ (rest *ℤ worth_in firm 0) ≡ rest *ℤ (scale *ℤ holds.empty) =
-    sym (swapped rest scale (worth_in firm 0)) ∙ ap (λ (z : ℤ). rest *ℤ (scale *ℤ z))
+    let rest_left : scale *ℤ (rest *ℤ worth_or_zero firm 0) ≡ rest *ℤ (scale *ℤ holds.empty) =
+    sym (swapped rest scale (worth_or_zero firm 0)) ∙ ap (λ (z : ℤ). rest *ℤ (scale *ℤ z))
     (ap (λ (o : Option ℤ). unwrap_or o (pos 0)) holds.empty_is) in
-    let whole = times-plus scale parts (rest *ℤ worth_in firm 0) in
+    let whole = times-plus scale parts (rest *ℤ worth_or_zero firm 0) in
     let all : over *ℤ value ≡ value *ℤ share_of plan f +ℤ rest *ℤ value =
     *ℤ_comm over value ∙ ap (λ (z : ℤ). value *ℤ z) (split over (share_of plan f))
     ∙ times-plus value (share_of plan f) rest

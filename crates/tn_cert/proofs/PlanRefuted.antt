@@ -4,10 +4,10 @@ use Rattle.std.specs.Prelude.{◌<ℤ◌, IsSome}
 use Rattle.std.proofs.lemmas.Int.{ints}
 use Rattle.std.proofs.lemmas.Option.{slice_get_within}
 use Rattle.tn_base.specs.Firm.{Firm}
-use Rattle.tn_plain_data.specs.declared.ends.Ends.{Ends}
-use Rattle.tn_plain_data.specs.declared.part.Part.{Part}
-use Rattle.tn_plain_data.specs.declared.reason.Reason.{Reason}
-use Rattle.tn_plain_data.specs.declared.reason.Reason.TheVariants.{Impossible, Shares, Balance, Whole}
+use Rattle.tn_model.specs.declared.ends.Ends.{Ends}
+use Rattle.tn_said.specs.declared.part.Part.{Part}
+use Rattle.tn_said.specs.declared.reason.Reason.{Reason}
+use Rattle.tn_said.specs.declared.reason.Reason.TheVariants.{Impossible, Shares, Balance, Whole}
 use Rattle.tn_cert.specs.Plans.{IsPlanAgainst, RefutesPlan}
 
 some_none : (o : Option ℤ) → IsSome o → o ≡ None → ⊥

@@ -3,7 +3,7 @@ use Rattle.std.proofs.Common.{◌≡◌, ℕ, zero, suc, ◌+◌, ◌*◌, ◌<�
 use Rattle.std.specs.Prelude.{IsSome, unwrap_or, ◌<ℤ◌}
 use Rattle.tn_market.specs.Equilibrium.{surplus_from, surplus_of}
 use Rattle.tn_market.specs.Widths.{most_worth}
-use Rattle.tn_plain_data.specs.Network.{part}
+use Rattle.tn_model.specs.Network.{part}
 use Rattle.tn_price.proofs.SurplusLemmas.{sum_more}
 use Rattle.std.proofs.lemmas.Int.{ints}
 use Rattle.std.proofs.lemmas.Bool.{cases_eq, eq-eqb}
@@ -18,10 +18,10 @@ use Rattle.tn_firm.specs.declared.raw.RawFirm.TheVariants.{Table, Laminar, Middl
 use Rattle.tn_firm.specs.declared.value.FirmValue.TheVariants.{Laminar as LaminarValue, Middle as MiddleValue, Dealer as DealerValue}
 use Rattle.tn_firm.specs.FirmLemmas.{firm_laws}
 use Rattle.tn_firm.specs.Raw.{raw_firm_of}
-use Rattle.tn_plain_data.specs.declared.part.Part.{Part}
-use Rattle.tn_plain_data.specs.declared.ends.Ends.{Ends}
-use Rattle.tn_plain_data.specs.Limits.{most_claimed_over}
-use Rattle.tn_cert.specs.Plans.{over_parts, worth_in, planned_worth, planned_from, HasPossibleParts, ArePossibleParts}
+use Rattle.tn_said.specs.declared.part.Part.{Part}
+use Rattle.tn_model.specs.declared.ends.Ends.{Ends}
+use Rattle.tn_model.specs.Limits.{most_claimed_over}
+use Rattle.tn_cert.specs.Plans.{over_parts, worth_or_zero, planned_worth, planned_from, HasPossibleParts, ArePossibleParts}
 use Rattle.tn_cert.specs.Limits.{most_planned_worth, most_weighed_worth}
 
 -- one part more
@@ -69,7 +69,7 @@ one_weighed term f plan k p sum more weight is more_is least most =
 -- ---- worths
 
 abbrev pub worth_term : Firm → Part → ℤ
-worth_term firm p = p.weight *ℤ worth_in firm p.bundle
+worth_term firm p = p.weight *ℤ worth_or_zero firm p.bundle
 
 -- the first k parts are possible, with this worth
 pub record IsWorth (firm : Firm) (f : ℕ) (plan : List Part) (k : ℕ) (sum : ℤ) : Type 0 where

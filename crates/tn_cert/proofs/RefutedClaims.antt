@@ -1,11 +1,11 @@
 -- A claim with a reason against it isn't valid.
 use Rattle.std.proofs.Common.{List, length, map, pos}
 use Rattle.tn_base.specs.Firm.{Firm}
-use Rattle.tn_plain_data.specs.declared.claim.Claim.{Claim}
-use Rattle.tn_plain_data.specs.declared.claim.Claim.TheVariants.{Equilibrium, Better, Impossible, Accepted, ExchangeFails, Supported, Cycle, Solved, Drops, Completes, Blocks, NoPrices}
-use Rattle.tn_plain_data.specs.declared.ends.Ends.{Ends}
-use Rattle.tn_plain_data.specs.declared.reason.Reason.{Reason}
-use Rattle.tn_plain_data.specs.Prices.{price_at}
+use Rattle.tn_said.specs.declared.claim.Claim.{Claim}
+use Rattle.tn_said.specs.declared.claim.Claim.TheVariants.{Equilibrium, Better, Impossible, Accepted, ExchangeFails, Supported, Cycle, Solved, Drops, Completes, Blocks, NoPrices}
+use Rattle.tn_model.specs.declared.ends.Ends.{Ends}
+use Rattle.tn_said.specs.declared.reason.Reason.{Reason}
+use Rattle.tn_model.specs.Prices.{price_at}
 use Rattle.tn_cert.specs.Claims.{IsValid, node_of}
 use Rattle.tn_cert.specs.Reasons.{Refutes}
 use Rattle.tn_cert.proofs.RefutedLemmas.{lack_refuted, equilibrium_refuted, better_refuted, impossible_refuted, cycle_refuted, accepted_refuted, failure_refuted}

@@ -8,14 +8,14 @@ use Rattle.tn_base.specs.Sets.{sum_over}
 use Rattle.tn_base.specs.Exchange.{Fails}
 use Rattle.tn_base.proofs.ExchangeLemmas.{none_fails_from_exchange}
 use Rattle.tn_local.proofs.FirstLemmas.{triple_fails}
-use Rattle.tn_plain_data.specs.declared.claim.Claim.TheVariants.{Impossible, Accepted, ExchangeFails}
-use Rattle.tn_plain_data.specs.declared.ends.Ends.{Ends}
-use Rattle.tn_plain_data.specs.declared.reason.Reason.{Reason}
-use Rattle.tn_plain_data.specs.declared.reason.Reason.TheVariants.{Impossible as ImpossibleIs, Better as BetterIs, Possible, Surplus, Gain, Exchange, Holds, Arc, Cost}
-use Rattle.tn_plain_data.specs.ClaimLimits.{IsFirmWith}
+use Rattle.tn_said.specs.declared.claim.Claim.TheVariants.{Impossible, Accepted, ExchangeFails}
+use Rattle.tn_model.specs.declared.ends.Ends.{Ends}
+use Rattle.tn_said.specs.declared.reason.Reason.{Reason}
+use Rattle.tn_said.specs.declared.reason.Reason.TheVariants.{Impossible as ImpossibleIs, Better as BetterIs, Possible, Surplus, Gain, Exchange, Holds, Arc, Cost}
+use Rattle.tn_said.specs.ClaimLimits.{IsFirmWith}
 use Rattle.tn_market.specs.Equilibrium.{prices_at, utility_at, IsEquilibrium, surplus_of}
 use Rattle.tn_market.specs.Graph.{exchange_arc, ArePossible}
-use Rattle.tn_plain_data.specs.Network.{part}
+use Rattle.tn_model.specs.Network.{part}
 use Rattle.tn_cert.specs.Claims.{Gains, IsPositive, GoesRound, IsValid}
 use Rattle.tn_cert.specs.Reasons.{LacksBest, RefutesEquilibrium, RefutesBetter, RefutesCycle, Refutes}
 use Rattle.tn_cert.proofs.RoundLemmas.{round_unbroken, round_cost-same}

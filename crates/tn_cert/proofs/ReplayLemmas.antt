@@ -2,9 +2,9 @@
 use Rattle.std.proofs.Common.{List, ℤ, Result, Ok, Err}
 use Rattle.std.specs.Prelude.{IfOk}
 use Rattle.tn_base.specs.Firm.{Firm}
-use Rattle.tn_plain_data.specs.declared.arrangement.Arrangement.{Arrangement}
-use Rattle.tn_plain_data.specs.declared.claim.Claim.TheVariants.{Equilibrium, Solved}
-use Rattle.tn_plain_data.specs.declared.ends.Ends.{Ends}
+use Rattle.tn_model.specs.declared.arrangement.Arrangement.{Arrangement}
+use Rattle.tn_said.specs.declared.claim.Claim.TheVariants.{Equilibrium, Solved}
+use Rattle.tn_model.specs.declared.ends.Ends.{Ends}
 use Rattle.tn_cert.specs.declared.replayed.Replayed.{Replayed}
 use Rattle.tn_cert.specs.declared.replayed.Replayed.TheVariants.{Valid, Invalid}
 use Rattle.tn_cert.specs.Replays.{Replays}

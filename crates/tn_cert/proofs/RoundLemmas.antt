@@ -8,7 +8,7 @@ use mir.Syntax.{w128}
 use mir.Val.{SFits}
 use Rattle.tn_base.specs.Arcs.{IsAtMost, AreSmall}
 use Rattle.tn_base.specs.Widths.{most_cost}
-use Rattle.tn_plain_data.specs.Limits.{most_nodes}
+use Rattle.tn_model.specs.Limits.{most_nodes}
 use Rattle.tn_base.specs.Options.{both}
 use Rattle.tn_base.specs.Walks.{walk_cost}
 use Rattle.tn_base.proofs.WalkLemmas.{both_parts, both_are, SameArcs, walk-same}

@@ -13,11 +13,11 @@ use Rattle.tn_base.specs.Arcs.{IsAtMost}
 use Rattle.tn_market.specs.Widths.{most_asked_price, most_own}
 use Rattle.tn_base.specs.Sets.{has, toggle}
 use Rattle.tn_base.proofs.SetLemmas.{has_above, has-toggle_same, has-toggle_other, within_from}
-use Rattle.tn_plain_data.specs.declared.contract.Contract.{Contract}
-use Rattle.tn_plain_data.specs.declared.ends.Ends.{Ends}
-use Rattle.tn_plain_data.specs.Prices.{price_at}
-use Rattle.tn_plain_data.specs.Network.{own}
-use Rattle.tn_cert.specs.Terms.{is_bought, better, IsAsGood, IsOffered, IsTerm, FindsTerm, HasTerms}
+use Rattle.tn_model.specs.declared.contract.Contract.{Contract}
+use Rattle.tn_model.specs.declared.ends.Ends.{Ends}
+use Rattle.tn_model.specs.Prices.{price_at}
+use Rattle.tn_model.specs.Network.{own}
+use Rattle.tn_cert.specs.Terms.{is_bought, better, IsAsGood, IsOnTrade, IsTerm, FindsTerm, HasTerms}
 
 -- ---- the better of two prices
 
@@ -57,7 +57,7 @@ is_kept None k e = λ same. absurd (cc same)
 is_kept (Some s) k e = λ same. absurd (let test = ap not (eq-eqb s k (same_Some s k same)) in cc (test, e))
 
 same_offer : (contracts : List Contract) (left_out : Option ℕ) (t n k : ℕ) (contract other : Contract)
-    → IsOffered contracts left_out t n contract → k ≡ n → IsOffered contracts left_out t k other
+    → IsOnTrade contracts left_out t n contract → k ≡ n → IsOnTrade contracts left_out t k other
     → contract ≡ other
 same_offer contracts left_out t n k contract other one e two =
     same_Some contract other (sym one.is ∙ ap (slice_get contracts) (sym e) ∙ two.is)
@@ -65,7 +65,7 @@ same_offer contracts left_out t n k contract other one e two =
 -- one more contract that is offered
 pub term_more : (contracts : List Contract) (left_out : Option ℕ) (t : ℕ) (buys : Bool) (n : ℕ) (found : Option ℤ)
     (contract : Contract) → FindsTerm contracts left_out t buys n found
-    → IsOffered contracts left_out t n contract
+    → IsOnTrade contracts left_out t n contract
     → FindsTerm contracts left_out t buys (n + 1) (Some (better buys found contract.price))
 term_more contracts left_out t buys n None contract before offered = (
   n,
@@ -121,10 +121,10 @@ term_more contracts left_out t buys n (Some price) contract before offered =
 -- and one that isn't
 pub term_same : (contracts : List Contract) (left_out : Option ℕ) (t : ℕ) (buys : Bool) (n : ℕ) (found : Option ℤ)
     → FindsTerm contracts left_out t buys n found
-    → ((other : Contract) → IsOffered contracts left_out t n other → ⊥)
+    → ((other : Contract) → IsOnTrade contracts left_out t n other → ⊥)
     → FindsTerm contracts left_out t buys (n + 1) found
 term_same contracts left_out t buys n None before away = λ k other below offered. elim (cases_eq k n) [
-  | inl e ↦ away other (subst (λ (i : ℕ). IsOffered contracts left_out t i other) e offered)
+  | inl e ↦ away other (subst (λ (i : ℕ). IsOnTrade contracts left_out t i other) e offered)
   | inr d ↦ before k other (omega (arith, below, d)) offered
 ]
 term_same contracts left_out t buys n (Some price) before away =
@@ -136,7 +136,7 @@ term_same contracts left_out t buys n (Some price) before away =
         offered = before.1.offered;
         price_is = before.1.price_is;
         best = λ k other below offered. elim (cases_eq k n) [
-          | inl e ↦ absurd (away other (subst (λ (i : ℕ). IsOffered contracts left_out t i other) e offered))
+          | inl e ↦ absurd (away other (subst (λ (i : ℕ). IsOnTrade contracts left_out t i other) e offered))
           | inr d ↦ before.1.best k other (omega (arith, below, d)) offered
         ];
       },
@@ -233,7 +233,7 @@ none_more trades contracts left_out f k t free buys list before t_is found = rec
   ];
   none = λ i below away j other offered. elim (cases_eq i k) [
     | inl e ↦ found j other (slice_get_within contracts j other offered.is)
-        (subst (λ (s : ℕ). IsOffered contracts left_out s j other) (ap (own trades f) e ∙ sym t_is) offered)
+        (subst (λ (s : ℕ). IsOnTrade contracts left_out s j other) (ap (own trades f) e ∙ sym t_is) offered)
     | inr d ↦ before.none i (omega (arith, below, d)) away j other offered
   ];
 }

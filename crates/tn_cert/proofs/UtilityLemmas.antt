@@ -9,10 +9,10 @@ use Rattle.tn_base.specs.Arcs.{IsAtMost}
 use Rattle.tn_market.specs.Widths.{most_utility}
 use Rattle.tn_base.specs.Firm.{Firm, payments, utility}
 use Rattle.tn_base.specs.Sets.{sum_over}
-use Rattle.tn_plain_data.specs.declared.ends.Ends.{Ends}
-use Rattle.tn_plain_data.specs.Prices.{price_at}
-use Rattle.tn_plain_data.specs.ClaimLimits.{IsFirmWith}
-use Rattle.tn_plain_data.specs.Network.{part}
+use Rattle.tn_model.specs.declared.ends.Ends.{Ends}
+use Rattle.tn_model.specs.Prices.{price_at}
+use Rattle.tn_said.specs.ClaimLimits.{IsFirmWith}
+use Rattle.tn_model.specs.Network.{part}
 use Rattle.tn_market.proofs.AskLemmas.{as_is, impossible_worth}
 use Rattle.tn_price.specs.Standings.{AreOwnPrices}
 use Rattle.tn_price.proofs.JudgeLemmas.{firm_is, utility_there}

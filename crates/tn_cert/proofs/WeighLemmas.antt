@@ -4,10 +4,10 @@ use Rattle.std.specs.Prelude.{slice_get}
 use Rattle.std.proofs.lemmas.List.{length-map}
 use Rattle.std.proofs.lemmas.Option.{same_Some, slice_get_within}
 use Rattle.tn_base.specs.Firm.{Firm}
-use Rattle.tn_plain_data.specs.declared.ends.Ends.{Ends}
-use Rattle.tn_plain_data.specs.declared.reason.Reason.TheVariants.{Better}
+use Rattle.tn_model.specs.declared.ends.Ends.{Ends}
+use Rattle.tn_said.specs.declared.reason.Reason.TheVariants.{Better}
 use Rattle.tn_market.specs.Judged.{IsFirstBettered}
-use Rattle.tn_plain_data.specs.Network.{trades_of}
+use Rattle.tn_model.specs.Network.{trades_of}
 use Rattle.tn_price.proofs.JudgeLemmas.{firm_is, some_item}
 use Rattle.tn_cert.specs.Reasons.{LacksBest}
 

@@ -4,16 +4,16 @@ use Rattle.tn_base.specs.Sets.{has}
 use Rattle.tn_base.specs.Firm.{Firm}
 use Rattle.tn_base.specs.Walks.{walk_cost}
 use Rattle.tn_base.specs.Exchange.{MeetsExchange, Fails}
-use Rattle.tn_plain_data.specs.declared.claim.Claim.{Claim}
-use Rattle.tn_plain_data.specs.declared.claim.Claim.TheVariants.{Equilibrium, Better, Impossible, Accepted, ExchangeFails, Supported, Cycle, Solved, Drops, Completes as CompletesIs, Blocks as BlocksIs, NoPrices}
-use Rattle.tn_plain_data.specs.declared.contract.Outcome.{Outcome}
-use Rattle.tn_plain_data.specs.declared.ends.Ends.{Ends}
-use Rattle.tn_plain_data.specs.Prices.{price_at}
-use Rattle.tn_plain_data.specs.Choices.{Blocks}
-use Rattle.tn_plain_data.specs.ClaimLimits.{IsFirmWith}
+use Rattle.tn_said.specs.declared.claim.Claim.{Claim}
+use Rattle.tn_said.specs.declared.claim.Claim.TheVariants.{Equilibrium, Better, Impossible, Accepted, ExchangeFails, Supported, Cycle, Solved, Drops, Completes as CompletesIs, Blocks as BlocksIs, NoPrices}
+use Rattle.tn_model.specs.declared.contract.Outcome.{Outcome}
+use Rattle.tn_model.specs.declared.ends.Ends.{Ends}
+use Rattle.tn_model.specs.Prices.{price_at}
+use Rattle.tn_model.specs.Choices.{Blocks}
+use Rattle.tn_said.specs.ClaimLimits.{IsFirmWith}
 use Rattle.tn_market.specs.Equilibrium.{utility_at, IsEquilibrium, surplus_of}
 use Rattle.tn_market.specs.Graph.{exchange_arc, ArePossible}
-use Rattle.tn_plain_data.specs.Network.{own, part}
+use Rattle.tn_model.specs.Network.{own, part}
 use Rattle.tn_cert.specs.Plans.{IsPlanAgainst}
 use Rattle.tn_market.specs.Signed.{is_signed, signed_bundle, signed_price, Completes}
 

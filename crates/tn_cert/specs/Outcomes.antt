@@ -1,9 +1,9 @@
 -- What is found on the way to a decision on a claim on an outcome.
 use Rattle.std.specs.Prelude.{◌≡◌, ℕ, ℤ, List, length, Option, Some, None, IfSome}
-use Rattle.tn_plain_data.specs.declared.contract.Contract.{Contract}
-use Rattle.tn_plain_data.specs.declared.contract.Outcome.{Outcome}
-use Rattle.tn_plain_data.specs.declared.ends.Ends.{Ends}
-use Rattle.tn_plain_data.specs.declared.reason.Reason.TheVariants.{Gain}
+use Rattle.tn_model.specs.declared.contract.Contract.{Contract}
+use Rattle.tn_model.specs.declared.contract.Outcome.{Outcome}
+use Rattle.tn_model.specs.declared.ends.Ends.{Ends}
+use Rattle.tn_said.specs.declared.reason.Reason.TheVariants.{Gain}
 use Rattle.tn_cert.specs.declared.replayed.Replayed.{Replayed}
 use Rattle.tn_cert.specs.declared.replayed.Replayed.TheVariants.{Valid, Invalid}
 use Rattle.tn_cert.specs.Claims.{AreSigned, IsPositive}

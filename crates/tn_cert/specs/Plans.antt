@@ -3,12 +3,12 @@
 use Rattle.std.specs.Prelude.{◌≡◌, ℕ, ◌+◌, ◌^◌, ◌<◌, ℤ, pos, ◌+ℤ◌, ◌-ℤ◌, ◌*ℤ◌, ◌≤ℤ◌, ◌<ℤ◌, List, [], ◌∷◌, All, length, slice_get, ◌==◌, if◌then◌else◌, Option, Some, None, Result, Ok, Err, IsSome, unwrap_or}
 use Rattle.tn_base.specs.Sets.{has}
 use Rattle.tn_base.specs.Firm.{Firm, MayAbstain}
-use Rattle.tn_plain_data.specs.declared.ends.Ends.{Ends}
-use Rattle.tn_plain_data.specs.declared.part.Part.{Part}
-use Rattle.tn_plain_data.specs.declared.reason.Reason.{Reason}
-use Rattle.tn_plain_data.specs.declared.reason.Reason.TheVariants.{Impossible, Shares, Balance, Whole}
-use Rattle.tn_plain_data.specs.ClaimLimits.{IsFirmWith}
-use Rattle.tn_plain_data.specs.Network.{trades_on, IsNetwork}
+use Rattle.tn_model.specs.declared.ends.Ends.{Ends}
+use Rattle.tn_said.specs.declared.part.Part.{Part}
+use Rattle.tn_said.specs.declared.reason.Reason.{Reason}
+use Rattle.tn_said.specs.declared.reason.Reason.TheVariants.{Impossible, Shares, Balance, Whole}
+use Rattle.tn_said.specs.ClaimLimits.{IsFirmWith}
+use Rattle.tn_model.specs.Network.{trades_on, IsNetwork}
 use Rattle.tn_market.specs.Equilibrium.{IsEquilibrium, surplus_of}
 
 -- the sum of a term over the parts of firm f
@@ -25,13 +25,13 @@ abbrev pub weight_at : List Part → ℕ → ℕ → ℤ
 weight_at plan f k = over_parts (λ part. if has part.bundle k then part.weight else pos 0) f plan
 
 -- the worth of a possible bundle
-abbrev pub worth_in : Firm → ℕ → ℤ
-worth_in firm x = unwrap_or (firm.worth x) (pos 0)
+abbrev pub worth_or_zero : Firm → ℕ → ℤ
+worth_or_zero firm x = unwrap_or (firm.worth x) (pos 0)
 
 -- the weighted worths of firm f's parts, and of the empty bundle for the rest of the denominator
 abbrev pub planned_worth : List Part → ℤ → ℕ → Firm → ℤ
-planned_worth plan over f firm = over_parts (λ part. part.weight *ℤ worth_in firm part.bundle) f plan
-    +ℤ (over -ℤ share_of plan f) *ℤ worth_in firm 0
+planned_worth plan over f firm = over_parts (λ part. part.weight *ℤ worth_or_zero firm part.bundle) f plan
+    +ℤ (over -ℤ share_of plan f) *ℤ worth_or_zero firm 0
 
 -- the sum of these for the firms from number f on
 abbrev pub planned_from : List Part → ℤ → ℕ → List Firm → ℤ
@@ -121,7 +121,7 @@ pub record PlansBarPrices : Type 0 where
 -- what the parts of a firm are worth, or that one of them is impossible
 abbrev pub FindsWorth : List Part → ℕ → Firm → Option ℤ → Type 0
 FindsWorth plan f firm (Some worth) = HasPossibleParts plan f firm
-    × (worth ≡ over_parts (λ part. part.weight *ℤ worth_in firm part.bundle) f plan)
+    × (worth ≡ over_parts (λ part. part.weight *ℤ worth_or_zero firm part.bundle) f plan)
 FindsWorth plan f firm None = HasImpossiblePart plan f firm
 
 -- what a firm's part of the plan is worth, or that one of its bundles is impossible

@@ -5,20 +5,20 @@ use Rattle.tn_base.specs.Firm.{Firm}
 use Rattle.tn_base.specs.Exchange.{MeetsExchange, Fails}
 use Rattle.tn_exchange.specs.TestOrder.{Triple}
 use Rattle.tn_local.specs.First.{IsFirstTriple}
-use Rattle.tn_plain_data.specs.declared.claim.Claim.{Claim}
-use Rattle.tn_plain_data.specs.declared.claim.Claim.TheVariants.{Equilibrium, Better, Impossible, Accepted, ExchangeFails, Supported, Cycle, Solved, Drops, Completes as CompletesIs, Blocks as BlocksIs, NoPrices}
-use Rattle.tn_plain_data.specs.declared.contract.Contract.{Contract}
-use Rattle.tn_plain_data.specs.declared.contract.Outcome.{Outcome}
-use Rattle.tn_plain_data.specs.declared.ends.Ends.{Ends}
-use Rattle.tn_plain_data.specs.declared.reason.Reason.{Reason}
-use Rattle.tn_plain_data.specs.declared.reason.Reason.TheVariants.{Impossible as ImpossibleIs, Better as BetterIs, Possible, Surplus, Gain, Exchange, Holds, Arc, Cost, Contract as ContractIs, Over, Price, Empty, Signed, Choice}
-use Rattle.tn_plain_data.specs.Prices.{price_at}
-use Rattle.tn_plain_data.specs.Choices.{is_of, IsChoice, together}
-use Rattle.tn_plain_data.specs.ClaimLimits.{IsFirmWith}
+use Rattle.tn_said.specs.declared.claim.Claim.{Claim}
+use Rattle.tn_said.specs.declared.claim.Claim.TheVariants.{Equilibrium, Better, Impossible, Accepted, ExchangeFails, Supported, Cycle, Solved, Drops, Completes as CompletesIs, Blocks as BlocksIs, NoPrices}
+use Rattle.tn_model.specs.declared.contract.Contract.{Contract}
+use Rattle.tn_model.specs.declared.contract.Outcome.{Outcome}
+use Rattle.tn_model.specs.declared.ends.Ends.{Ends}
+use Rattle.tn_said.specs.declared.reason.Reason.{Reason}
+use Rattle.tn_said.specs.declared.reason.Reason.TheVariants.{Impossible as ImpossibleIs, Better as BetterIs, Possible, Surplus, Gain, Exchange, Holds, Arc, Cost, Contract as ContractIs, Over, Price, Empty, Signed, Choice}
+use Rattle.tn_model.specs.Prices.{price_at}
+use Rattle.tn_model.specs.Choices.{is_of, IsChoice, together}
+use Rattle.tn_said.specs.ClaimLimits.{IsFirmWith}
 use Rattle.tn_market.specs.Equilibrium.{IsEquilibrium, surplus_of}
 use Rattle.tn_market.specs.Graph.{exchange_arc, ArePossible}
 use Rattle.tn_market.specs.Judged.{IsFirstImpossible, IsFirstBettered}
-use Rattle.tn_plain_data.specs.Network.{own, part, trades_of}
+use Rattle.tn_model.specs.Network.{own, part, trades_of}
 use Rattle.tn_market.specs.Signed.{is_signed, signed}
 use Rattle.tn_market.specs.Supported.{IsFirstUnable}
 use Rattle.tn_cert.specs.Plans.{RefutesPlan}

@@ -2,15 +2,15 @@
 use Rattle.std.specs.Prelude.{◌≡◌, ◌⊎◌, ℕ, ℤ, pos, List, map, Bool, true, false, Option, Some, None, option_map, Result, Ok, Err}
 use Rattle.tn_base.specs.Arcs.{IsAtMost}
 use Rattle.tn_base.specs.Firm.{Firm}
-use Rattle.tn_plain_data.specs.declared.claim.Claim.{Claim}
-use Rattle.tn_plain_data.specs.declared.claim.Claim.TheVariants.{Equilibrium, Better, Impossible, Accepted, ExchangeFails, Supported, Cycle, Solved, Drops, Completes, Blocks, NoPrices}
-use Rattle.tn_plain_data.specs.declared.ends.Ends.{Ends}
-use Rattle.tn_plain_data.specs.declared.reason.Reason.{Reason}
-use Rattle.tn_plain_data.specs.declared.reason.Reason.TheVariants.{Exchange, Whole}
-use Rattle.tn_plain_data.specs.ClaimLimits.{IsFirmWith}
-use Rattle.tn_plain_data.specs.Limits.{most_number}
+use Rattle.tn_said.specs.declared.claim.Claim.{Claim}
+use Rattle.tn_said.specs.declared.claim.Claim.TheVariants.{Equilibrium, Better, Impossible, Accepted, ExchangeFails, Supported, Cycle, Solved, Drops, Completes, Blocks, NoPrices}
+use Rattle.tn_model.specs.declared.ends.Ends.{Ends}
+use Rattle.tn_said.specs.declared.reason.Reason.{Reason}
+use Rattle.tn_said.specs.declared.reason.Reason.TheVariants.{Exchange, Whole}
+use Rattle.tn_said.specs.ClaimLimits.{IsFirmWith}
+use Rattle.tn_model.specs.Limits.{most_number}
 use Rattle.tn_market.specs.Equilibrium.{IsEquilibrium, surplus_of}
-use Rattle.tn_plain_data.specs.Network.{own, part}
+use Rattle.tn_model.specs.Network.{own, part}
 use Rattle.tn_cert.specs.declared.replayed.Replayed.{Replayed}
 use Rattle.tn_cert.specs.declared.replayed.Replayed.TheVariants.{Valid, Invalid}
 use Rattle.tn_cert.specs.Claims.{Gains, GoesRound, IsValid}

@@ -3,10 +3,10 @@ use Rattle.std.specs.Prelude.{◌≡◌, ◌≢◌, ℕ, ◌^◌, ◌<◌, ℤ, 
 use Rattle.std.specs.Int.{int_max, int_min}
 use Rattle.tn_base.specs.Arcs.{IsAtMost}
 use Rattle.tn_base.specs.Sets.{has}
-use Rattle.tn_plain_data.specs.declared.contract.Contract.{Contract}
-use Rattle.tn_plain_data.specs.declared.ends.Ends.{Ends}
-use Rattle.tn_plain_data.specs.Prices.{price_at}
-use Rattle.tn_plain_data.specs.Network.{own}
+use Rattle.tn_model.specs.declared.contract.Contract.{Contract}
+use Rattle.tn_model.specs.declared.ends.Ends.{Ends}
+use Rattle.tn_model.specs.Prices.{price_at}
+use Rattle.tn_model.specs.Network.{own}
 use Rattle.tn_market.specs.Widths.{most_asked_price, most_own}
 
 -- whether firm f is the buyer of trade t
@@ -25,7 +25,7 @@ IsAsGood true price other = price ≤ℤ other
 IsAsGood false price other = other ≤ℤ price
 
 -- the contract with index k is on trade t, and isn't left out
-pub record IsOffered (contracts : List Contract) (left_out : Option ℕ) (t k : ℕ) (contract : Contract) : Type 0 where
+pub record IsOnTrade (contracts : List Contract) (left_out : Option ℕ) (t k : ℕ) (contract : Contract) : Type 0 where
   pub is : slice_get contracts k ≡ Some contract
   pub trade : contract.trade ≡ t
   pub kept : left_out ≢ Some k
@@ -35,15 +35,15 @@ pub record IsTerm (contracts : List Contract) (left_out : Option ℕ) (t : ℕ) 
     (at : ℕ) : Type 0 where
   pub below : at < n
   pub contract : Contract
-  pub offered : IsOffered contracts left_out t at contract
+  pub offered : IsOnTrade contracts left_out t at contract
   pub price_is : contract.price ≡ price
-  pub best : (k : ℕ) (other : Contract) → k < n → IsOffered contracts left_out t k other
+  pub best : (k : ℕ) (other : Contract) → k < n → IsOnTrade contracts left_out t k other
       → IsAsGood buys price other.price
 
 -- the best price for trade t among the first n contracts, none where none of them is on it
 abbrev pub FindsTerm : List Contract → Option ℕ → ℕ → Bool → ℕ → Option ℤ → Type 0
 FindsTerm contracts left_out t buys n (Some price) = (at : ℕ) × IsTerm contracts left_out t buys n price at
-FindsTerm contracts left_out t buys n None = (k : ℕ) (other : Contract) → k < n → IsOffered contracts left_out t k other
+FindsTerm contracts left_out t buys n None = (k : ℕ) (other : Contract) → k < n → IsOnTrade contracts left_out t k other
     → ⊥
 
 -- the first n positions of firm f at which a contract is offered, with the best price at each of them, 0 elsewhere
@@ -57,4 +57,4 @@ pub record HasTerms (trades : List Ends) (contracts : List Contract) (left_out :
       → IsTerm contracts left_out (own trades f k) (is_bought trades f (own trades f k)) (length contracts)
       (price_at prices k) (at k)
   pub none : (k : ℕ) → k < n → has free k ≡ false → (j : ℕ) (other : Contract)
-      → IsOffered contracts left_out (own trades f k) j other → ⊥
+      → IsOnTrade contracts left_out (own trades f k) j other → ⊥

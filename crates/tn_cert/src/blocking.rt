@@ -4,11 +4,11 @@ ghost use Rattle.std.specs.Prelude.{◌≡◌, ◌<◌, ◌≤◌, pos, ◌*ℤ�
 ghost use Rattle.tn_base.specs.Arcs.{IsAtMost};
 ghost use Rattle.tn_cert.specs.Greatest.{DecidesContract, DecidesEqual, FindsLeaver, FindsSigned, HaveTradesOnce};
 ghost use Rattle.tn_cert.specs.Replays.{Replays};
-ghost use Rattle.tn_plain_data.specs.Choices.{together};
-ghost use Rattle.tn_plain_data.specs.declared.claim.Claim.TheVariants.{Blocks};
-ghost use Rattle.tn_plain_data.specs.ClaimLimits.{AreOffersWithin, IsOverWithin};
+ghost use Rattle.tn_model.specs.Choices.{together};
+ghost use Rattle.tn_said.specs.declared.claim.Claim.TheVariants.{Blocks};
+ghost use Rattle.tn_said.specs.ClaimLimits.{AreOffersWithin, IsOverWithin};
 ghost use Rattle.tn_market.specs.Limits.{IsOutcomeOf, IsWithinLimits};
-ghost use Rattle.tn_plain_data.specs.Limits.{most_claimed_over, most_number, most_numerator, most_over};
+ghost use Rattle.tn_model.specs.Limits.{most_claimed_over, most_number, most_numerator, most_over};
 ghost use Rattle.tn_market.specs.Widths.{most_scale};
 ghost use Rattle.tn_market.specs.NetworkOf.{network_of};
 
@@ -18,8 +18,9 @@ use crate::pool::together;
 use crate::replayed::Replayed;
 use std::alloc::Global;
 use tn_base::OutOfMemory;
-use tn_market::{Contract, Contracts, Market, Oracle, Outcome, Reason, Room};
+use tn_market::{Contract, Contracts, Market, Oracle, Outcome, Room};
 use tn_residual::contract_price;
+use tn_said::Reason;
 
 /// Whether two products are equal.
 fn are_equal(a: i128, b: i128, c: i128, d: i128) -> bool

@@ -3,10 +3,10 @@
 ghost use Rattle.std.specs.Prelude.{◌≡◌, ◌<◌, ◌≤◌, pos, ◌≤ℤ◌, length, slice_get, All, Some, None};
 ghost use Rattle.tn_base.specs.Arcs.{IsAtMost};
 ghost use Rattle.tn_cert.specs.Greatest.{DecidesLeave, DecidesOwn, FindsLeft, IsGreatest};
-ghost use Rattle.tn_plain_data.specs.Choices.{is_end};
+ghost use Rattle.tn_model.specs.Choices.{is_end};
 ghost use Rattle.tn_market.specs.Limits.{IsWithinLimits};
 ghost use Rattle.tn_market.specs.Widths.{most_asked_price, most_scale, most_utility};
-ghost use Rattle.tn_plain_data.specs.Network.{IsNetwork};
+ghost use Rattle.tn_model.specs.Network.{IsNetwork};
 ghost use Rattle.tn_market.specs.NetworkOf.{network_of};
 
 use crate::least::earlier;

@@ -4,12 +4,12 @@ ghost use Rattle.std.specs.Prelude.{◌≡◌, ◌<◌, ◌≤◌, length, All, 
 ghost use Rattle.tn_base.specs.Arcs.{IsAtMost};
 ghost use Rattle.tn_cert.specs.Outcomes.{FindsMispriced};
 ghost use Rattle.tn_cert.specs.Replays.{Replays};
-ghost use Rattle.tn_plain_data.specs.declared.claim.Claim.TheVariants.{Completes};
-ghost use Rattle.tn_plain_data.specs.Prices.{price_at};
-ghost use Rattle.tn_plain_data.specs.ClaimLimits.{IsOverWithin};
+ghost use Rattle.tn_said.specs.declared.claim.Claim.TheVariants.{Completes};
+ghost use Rattle.tn_model.specs.Prices.{price_at};
+ghost use Rattle.tn_said.specs.ClaimLimits.{IsOverWithin};
 ghost use Rattle.tn_market.specs.Limits.{IsOutcomeOf, IsWithinLimits};
 ghost use Rattle.tn_cert.specs.Limits.{most_claimed_trades};
-ghost use Rattle.tn_plain_data.specs.Limits.{most_number};
+ghost use Rattle.tn_model.specs.Limits.{most_number};
 ghost use Rattle.tn_market.specs.Signed.{signed};
 ghost use Rattle.tn_market.specs.NetworkOf.{network_of};
 
@@ -17,8 +17,9 @@ use crate::equilibria::first_lack;
 use crate::replayed::Replayed;
 use std::alloc::Global;
 use tn_base::{OutOfMemory, TradeSet};
-use tn_market::{Contracts, Market, Oracle, Outcome, Prices, Reason};
+use tn_market::{Contracts, Market, Oracle, Outcome, Prices};
 use tn_residual::contract_price;
+use tn_said::Reason;
 
 /// The first contract whose trade has another price, by its trade.
 fn first_mispriced(contracts: &Contracts, prices: &Prices) -> Option<u32>

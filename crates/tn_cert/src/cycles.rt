@@ -1,7 +1,7 @@
 //! Claims that nodes go round on arcs of the exchange graph.
 
 ghost use Rattle.std.specs.Prelude.{◌≡◌, ◌+◌, ◌<◌, ◌≤◌, IfOk, length, map};
-ghost use Rattle.tn_plain_data.specs.ClaimLimits.{AreNodesWithin};
+ghost use Rattle.tn_said.specs.ClaimLimits.{AreNodesWithin};
 ghost use Rattle.tn_market.specs.Limits.{IsWithinLimits};
 ghost use Rattle.tn_cert.specs.Limits.{most_claimed_trades};
 ghost use Rattle.tn_cert.specs.Claims.{node_of};
@@ -13,8 +13,9 @@ use crate::replayed::Replayed;
 use std::alloc::Global;
 use tn_base::{Costs, OutOfMemory, Steps, TradeSet};
 use tn_graph::Graph;
-use tn_market::{Claim, Market, Nodes, Oracle, Reason};
+use tn_market::{Market, Nodes, Oracle};
 use tn_price::first_unable;
+use tn_said::{Claim, Reason};
 
 /// The number of a node: null is the node after all trades.
 fn node_of(node: Option<u32>, null: u32) -> u32

@@ -5,7 +5,7 @@ ghost use Rattle.tn_base.specs.Arcs.{IsAtMost};
 ghost use Rattle.tn_base.specs.Sets.{has};
 ghost use Rattle.tn_cert.specs.Outcomes.{FindsUnsigned};
 ghost use Rattle.tn_cert.specs.Replays.{Replays};
-ghost use Rattle.tn_plain_data.specs.declared.claim.Claim.TheVariants.{Drops};
+ghost use Rattle.tn_said.specs.declared.claim.Claim.TheVariants.{Drops};
 ghost use Rattle.tn_market.specs.Limits.{IsOutcomeOf, IsWithinLimits};
 ghost use Rattle.tn_market.specs.Signed.{contract_utility, is_signed};
 ghost use Rattle.tn_market.specs.Widths.{most_utility};
@@ -17,8 +17,9 @@ use crate::least::earlier;
 use crate::replayed::Replayed;
 use std::alloc::Global;
 use tn_base::{Bundle, OutOfMemory};
-use tn_market::{Contracts, Market, Oracle, Outcome, Reason, Room, Valuation, utility_of};
+use tn_market::{Contracts, Market, Oracle, Outcome, Room, Valuation, utility_of};
 use tn_residual::{Held, contract_price, signed_by};
+use tn_said::Reason;
 
 /// Whether position `k`, at which trade `t` stands, is kept without a contract.
 fn is_unsigned(contracts: &Contracts, keeps: Bundle, k: u32, t: u32) -> bool

@@ -2,18 +2,19 @@
 
 ghost use Rattle.std.specs.Prelude.{◌≡◌, ◌<◌, ◌≤◌, pos, ◌≤ℤ◌, All, IfOk, length};
 ghost use Rattle.tn_base.specs.Arcs.{IsAtMost};
-ghost use Rattle.tn_plain_data.specs.Prices.{price_at};
+ghost use Rattle.tn_model.specs.Prices.{price_at};
 ghost use Rattle.tn_market.specs.Limits.{IsWithinLimits};
 ghost use Rattle.tn_cert.specs.Limits.{most_claimed_trades};
-ghost use Rattle.tn_plain_data.specs.Limits.{most_claimed_over, most_number};
+ghost use Rattle.tn_model.specs.Limits.{most_claimed_over, most_number};
 ghost use Rattle.tn_cert.specs.Replays.{FindsLack, Replays, Weighs};
 ghost use Rattle.tn_market.specs.NetworkOf.{network_of};
 
 use crate::replayed::Replayed;
 use std::alloc::Global;
 use tn_base::{OutOfMemory, TradeSet};
-use tn_market::{Arrangement, Claim, Market, Oracle, Prices, Reason, Room};
+use tn_market::{Arrangement, Market, Oracle, Prices, Room};
 use tn_price::{Check, judge_at, trades_in};
+use tn_said::{Claim, Reason};
 
 /// The surplus of an equilibrium at a scale, or the first firm without a best bundle, as the reason against one. It
 /// fails only where memory runs out.

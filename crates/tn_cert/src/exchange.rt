@@ -3,10 +3,10 @@
 ghost use Rattle.std.specs.Prelude.{◌≡◌, ◌^◌, ◌<◌, ◌≤◌, ◌↔◌, All, IfOk, IfSome, IsTrue, List, false, length, map};
 ghost use Rattle.tn_base.specs.Exchange.{Fails};
 ghost use Rattle.tn_firm.specs.Raw.{CanBeTested, raw_firm_of};
-ghost use Rattle.tn_plain_data.specs.declared.ends.Ends.{Ends};
-ghost use Rattle.tn_plain_data.specs.ClaimLimits.{IsFirmWith};
-ghost use Rattle.tn_plain_data.specs.Limits.{most_firms};
-ghost use Rattle.tn_plain_data.specs.Network.{trades_on};
+ghost use Rattle.tn_model.specs.declared.ends.Ends.{Ends};
+ghost use Rattle.tn_said.specs.ClaimLimits.{IsFirmWith};
+ghost use Rattle.tn_model.specs.Limits.{most_firms};
+ghost use Rattle.tn_model.specs.Network.{trades_on};
 ghost use Rattle.tn_cert.specs.Replays.{HasSmallSurplus, Replays, in_trades};
 
 use crate::replayed::Replayed;
@@ -14,7 +14,8 @@ use std::alloc::Global;
 use tn_base::{Bundle, OutOfMemory};
 use tn_exchange::{Verdict, fails_at};
 use tn_firm::RawFirm;
-use tn_market::{Claim, Reason, Trades};
+use tn_market::Trades;
+use tn_said::{Claim, Reason};
 
 /// The positions below `count` in a bundle, ascending. It fails only where memory runs out.
 pub(crate) fn positions_in(alloc: Global, bundle: Bundle, count: u32) -> Result<Trades, OutOfMemory>

@@ -6,7 +6,7 @@ ghost use Rattle.tn_cert.specs.Outcomes.{DecidesGain};
 ghost use Rattle.tn_market.specs.Widths.{most_utility};
 
 use crate::replayed::Replayed;
-use tn_market::Reason;
+use tn_said::Reason;
 
 /// What a utility is above another one, none where the other bundle is impossible.
 pub(crate) fn gain_over(value: i128, other: Option<i128>) -> Option<i128>

@@ -4,24 +4,24 @@ ghost use Rattle.std.specs.Prelude.{◌≡◌, ℕ, ◌*◌, ◌^◌, ◌<◌, �
 ghost use Rattle.tn_base.specs.Arcs.{IsAtMost};
 ghost use Rattle.tn_base.specs.Sets.{has};
 ghost use Rattle.tn_cert.specs.Limits.{most_planned_worth, most_weighed_worth};
-ghost use Rattle.tn_cert.specs.Plans.{FindsPlanned, FindsShares, FindsUnbalanced, FindsWhole, FindsWorth, IsBalanced, WeighsPlan, share_of, weight_at, worth_in};
+ghost use Rattle.tn_cert.specs.Plans.{FindsPlanned, FindsShares, FindsUnbalanced, FindsWhole, FindsWorth, IsBalanced, WeighsPlan, share_of, weight_at, worth_or_zero};
 ghost use Rattle.tn_cert.specs.Replays.{HasSmallSurplus, Replays, in_trades};
 ghost use Rattle.tn_firm.specs.Raw.{raw_firm_of};
 ghost use Rattle.tn_market.specs.Equilibrium.{surplus_of};
 ghost use Rattle.tn_market.specs.Widths.{most_own, most_worth};
-ghost use Rattle.tn_plain_data.specs.ClaimLimits.{IsOverWithin, IsPartWithin};
-ghost use Rattle.tn_plain_data.specs.Limits.{most_claimed_over, most_firms, most_number, most_parts, most_planned_trades};
-ghost use Rattle.tn_plain_data.specs.Network.{IsNetwork, own, part};
-ghost use Rattle.tn_plain_data.specs.declared.claim.Claim.{Claim};
-ghost use Rattle.tn_plain_data.specs.declared.part.Part.{Part};
+ghost use Rattle.tn_said.specs.ClaimLimits.{IsOverWithin, IsPartWithin};
+ghost use Rattle.tn_model.specs.Limits.{most_claimed_over, most_firms, most_number, most_parts, most_planned_trades};
+ghost use Rattle.tn_model.specs.Network.{IsNetwork, own, part};
+ghost use Rattle.tn_said.specs.declared.claim.Claim.{Claim};
+ghost use Rattle.tn_said.specs.declared.part.Part.{Part};
 
 use crate::exchange::positions_in;
 use crate::replayed::Replayed;
 use std::alloc::Global;
 use tn_base::{Bundle, OutOfMemory};
 use tn_firm::RawFirm;
-use tn_market::Reason;
-use tn_plain_data::{Ends, Part, Parts, own};
+use tn_model::{Ends, own};
+use tn_said::{Part, Parts, Reason};
 
 /// The weight of a part of firm `f`, 0 for a part of another one.
 fn weight_for(part: Part, f: u32) -> i128
@@ -135,7 +135,7 @@ fn rest_worth(firm: &RawFirm, plan: &Parts, f: u32, over: i128) -> i128
     requires few { length plan.now ≤ most_parts }
     requires weighed { All (λ part. IsOverWithin part.weight) plan.now }
     requires over { IsOverWithin over }
-    ensures worth { result ≡ (over -ℤ share_of plan.now f) *ℤ worth_in (raw_firm_of firm.now) 0 }
+    ensures worth { result ≡ (over -ℤ share_of plan.now f) *ℤ worth_or_zero (raw_firm_of firm.now) 0 }
     ensures small { IsAtMost result (most_parts * most_weighed_worth) }
 {
     times(rest_of(plan, f, over), empty_worth(firm))

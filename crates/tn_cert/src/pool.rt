@@ -2,8 +2,8 @@
 
 ghost use Rattle.std.specs.Prelude.{◌≡◌, ◌++◌, ◌≤◌, pos, ◌*ℤ◌, ◌≤ℤ◌, All, IfOk};
 ghost use Rattle.tn_base.specs.Arcs.{IsAtMost};
-ghost use Rattle.tn_plain_data.specs.Choices.{counted, together};
-ghost use Rattle.tn_plain_data.specs.Limits.{most_claimed_over, most_number};
+ghost use Rattle.tn_model.specs.Choices.{counted, together};
+ghost use Rattle.tn_model.specs.Limits.{most_claimed_over, most_number};
 
 use std::alloc::Global;
 use tn_base::OutOfMemory;

@@ -1,6 +1,6 @@
 //! What the replay of a claim says.
 
-use tn_market::Reason;
+use tn_said::Reason;
 
 /// What the replay of a claim says.
 #[derive(Drop)]

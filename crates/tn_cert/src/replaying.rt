@@ -2,11 +2,11 @@
 
 ghost use Rattle.std.specs.Prelude.{◌≡◌, ◌≤◌, true, false, All, IfOk, length, map};
 ghost use Rattle.tn_firm.specs.Raw.{CanBeTested, raw_firm_of};
-ghost use Rattle.tn_plain_data.specs.ClaimLimits.{IsClaimWithin};
+ghost use Rattle.tn_said.specs.ClaimLimits.{IsClaimWithin};
 ghost use Rattle.tn_market.specs.Limits.{IsWithinLimits};
 ghost use Rattle.tn_cert.specs.Limits.{most_claimed_trades};
-ghost use Rattle.tn_plain_data.specs.Limits.{most_firms};
-ghost use Rattle.tn_plain_data.specs.Network.{IsNetwork};
+ghost use Rattle.tn_model.specs.Limits.{most_firms};
+ghost use Rattle.tn_model.specs.Network.{IsNetwork};
 ghost use Rattle.tn_cert.specs.Replays.{HasSmallSurplus, Replays, in_trades, is_raw};
 ghost use Rattle.tn_market.specs.NetworkOf.{network_of};
 
@@ -22,8 +22,9 @@ use crate::utilities::{replay_better, replay_impossible};
 use std::alloc::Global;
 use tn_base::{OutOfMemory, Steps};
 use tn_firm::RawFirm;
-use tn_market::{Claim, Market, Oracle};
-use tn_plain_data::Ends;
+use tn_market::{Market, Oracle};
+use tn_model::Ends;
+use tn_said::Claim;
 
 /// Whether a claim is one on a network whose firms aren't tested yet: of their exchange property, or that there are no
 /// prices.

@@ -2,19 +2,20 @@
 
 ghost use Rattle.std.specs.Prelude.{◌≡◌, ◌^◌, ◌<◌, ◌≤◌, All, IfOk, length, map};
 ghost use Rattle.tn_base.specs.Arcs.{IsAtMost};
-ghost use Rattle.tn_plain_data.specs.Prices.{price_at};
-ghost use Rattle.tn_plain_data.specs.ClaimLimits.{IsFirmWith};
+ghost use Rattle.tn_model.specs.Prices.{price_at};
+ghost use Rattle.tn_said.specs.ClaimLimits.{IsFirmWith};
 ghost use Rattle.tn_market.specs.Limits.{IsWithinLimits};
 ghost use Rattle.tn_cert.specs.Limits.{most_claimed_trades};
-ghost use Rattle.tn_plain_data.specs.Limits.{most_price};
+ghost use Rattle.tn_model.specs.Limits.{most_price};
 ghost use Rattle.tn_cert.specs.Replays.{Replays, TellsGain};
 ghost use Rattle.tn_market.specs.NetworkOf.{network_of};
 
 use crate::replayed::Replayed;
 use std::alloc::Global;
 use tn_base::{Bundle, OutOfMemory, Steps, TradeSet};
-use tn_market::{Arrangement, Claim, Market, Oracle, Reason, Room, Valuation, utility_of};
+use tn_market::{Arrangement, Market, Oracle, Room, Valuation, utility_of};
 use tn_price::{own_prices, worth_at};
+use tn_said::{Claim, Reason};
 
 /// What firm `f` gains at an arrangement where it has another bundle in place of its own, None where one of the two is
 /// impossible.

@@ -9,19 +9,19 @@ use Rattle.tn_base.proofs.SetLemmas.{has-set_of}
 use Rattle.tn_base.specs.Firm.{Firm}
 use Rattle.tn_base.specs.Arcs.{IsAtMost}
 use Rattle.tn_base.specs.Walks.{walk_cost, arcs_among, is_admitted, AreDifferent}
-use Rattle.tn_plain_data.specs.declared.ends.Ends.{Ends}
-use Rattle.tn_plain_data.specs.Limits.{most_number}
-use Rattle.tn_plain_data.specs.declared.contract.Contract.{Contract}
+use Rattle.tn_model.specs.declared.ends.Ends.{Ends}
+use Rattle.tn_model.specs.Limits.{most_number}
+use Rattle.tn_model.specs.declared.contract.Contract.{Contract}
 use Rattle.tn_market.specs.Signed.{is_signed}
 use Rattle.tn_market.specs.Signed.{Completes}
 use Rattle.tn_market.specs.Reduced.{reduced_firms, reduced_arc}
 use Rattle.tn_cycle.specs.Answers.{IsNegative}
-use Rattle.tn_graph.specs.Blocks.{Blocks, arcs_of}
+use Rattle.tn_graph.specs.Blocks.{CostBlocks, arcs_of}
 use Rattle.tn_graph.specs.Reading.{IsExchangeGraph}
-use Rattle.tn_outcome.specs.Rational.{IsRationalOutcome}
-use Rattle.tn_outcome.specs.Laws.{completed}
-use Rattle.tn_outcome.proofs.ArcLemmas.{reduced_arcs_are_unsigned}
-use Rattle.tn_outcome.proofs.CompletionLemmas.{completes_from_labels}
+use Rattle.tn_outcome_laws.specs.Rational.{IsRationalOutcome}
+use Rattle.tn_outcome_laws.specs.Laws.{completed}
+use Rattle.tn_outcome_laws.proofs.ArcLemmas.{reduced_arcs_are_unsigned}
+use Rattle.tn_outcome_laws.proofs.CompletionLemmas.{completes_from_labels}
 use Rattle.tn_flow.specs.Solved.{Solution}
 use Rattle.tn_residual.specs.Residual.{number_from, unsigned, unsigned_part}
 use Rattle.tn_blocking_laws.specs.Taxed.{IsTaxedEquilibrium}
@@ -32,11 +32,11 @@ use Rattle.tn_chain.specs.Search.{chain_scale, price_for, HasCycle, IsSolvedAmon
 use Rattle.tn_chain.proofs.NumberLemmas.{number_less, unsigned_size}
 use Rattle.tn_chain.proofs.SizeLemmas.{made_more}
 use Rattle.tn_chain.proofs.SearchLemmas.{IsRound, found_in_graph, listed_left, unsigned_member, different_listed, walk_arc, arc_linked, null_arc}
-use Rattle.tn_plain_data.specs.Network.{IsNetwork}
+use Rattle.tn_model.specs.Network.{IsNetwork}
 use Rattle.tn_market.specs.Lawful.{IsLawful}
 use Rattle.tn_market.specs.Limits.{IsOutcomeOf}
-use Rattle.tn_plain_data.specs.Choices.{IsIndividuallyRational}
-use Rattle.tn_network.proofs.EachLemmas.{meet_all}
+use Rattle.tn_model.specs.Choices.{IsIndividuallyRational}
+use Rattle.tn_network_laws.proofs.EachLemmas.{meet_all}
 use Rattle.tn_residual.proofs.MakingLemmas.{outcome_feasible}
 
 -- each listed node from there on is an unsigned trade that is left
@@ -193,7 +193,7 @@ is_blocking firms trades over contracts left listed cost count cycle solution ro
 
 -- ---- as the code has it
 
-pub round_of : (firms : List Firm) (trades : List Ends) (over : ℤ) (contracts : List Contract) (graph : Blocks)
+pub round_of : (firms : List Firm) (trades : List Ends) (over : ℤ) (contracts : List Contract) (graph : CostBlocks)
     → IsExchangeGraph (reduced_firms trades over contracts firms) trades 0 graph → (null : ℕ) → null ≡ length trades
     → IsRationalOutcome firms trades over contracts → (left : ℕ) → HasCycle firms trades over contracts left
     → (listed : List ℕ) (count : ℕ)

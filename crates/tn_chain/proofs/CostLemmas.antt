@@ -10,21 +10,21 @@ use Rattle.tn_base.specs.Widths.{most_cost}
 use Rattle.tn_chain.specs.Limits.{most_reduced_cost}
 use Rattle.tn_base.specs.Sets.{has, meet}
 use Rattle.tn_base.specs.Firm.{Firm}
-use Rattle.tn_plain_data.specs.declared.ends.Ends.{Ends}
-use Rattle.tn_plain_data.specs.declared.contract.Contract.{Contract}
-use Rattle.tn_plain_data.specs.Network.{IsNetwork}
+use Rattle.tn_model.specs.declared.ends.Ends.{Ends}
+use Rattle.tn_model.specs.declared.contract.Contract.{Contract}
+use Rattle.tn_model.specs.Network.{IsNetwork}
 use Rattle.tn_market.specs.Graph.{loss, exchange_arc}
 use Rattle.tn_market.specs.Limits.{IsOutcomeOf}
 use Rattle.tn_market.specs.Signed.{is_signed, signed_price, signed_bundle}
 use Rattle.tn_market.specs.Reduced.{reduced, reduced_firms, reduced_arc}
 use Rattle.tn_market.proofs.GraphLemmas.{arc_within}
-use Rattle.tn_graph.specs.Blocks.{Blocks, arcs_of}
+use Rattle.tn_graph.specs.Blocks.{CostBlocks, arcs_of}
 use Rattle.tn_graph.specs.BlockLemmas.{arcs_of-between}
 use Rattle.tn_graph.specs.Layout.{IsLaidOut}
-use Rattle.tn_graph.specs.Reading.{IsWithoutArcs, IsWritten, IsExchangeGraph}
+use Rattle.tn_graph.specs.Reading.{IsWithoutArcs, IsCostWritten, IsExchangeGraph}
 use Rattle.tn_residual.specs.Held.{contract_price}
-use Rattle.tn_outcome.proofs.CompletionLemmas.{reduced_is}
-use Rattle.tn_outcome.proofs.SignedLemmas.{contract_on}
+use Rattle.tn_outcome_laws.proofs.CompletionLemmas.{reduced_is}
+use Rattle.tn_outcome_laws.proofs.SignedLemmas.{contract_on}
 use Rattle.tn_chain.specs.Moves.{arc_move, AreKeptWorths, AreWritten}
 use Rattle.tn_chain.proofs.MoveLemmas.{arc_of_move, move_cost, move_is, signed_from, signed_to}
 
@@ -188,7 +188,7 @@ cost_small arc small u v None is = tt
 cost_small arc small u v (Some c) is = let h = small u v c (sym is) in
     record { low = omega (arith, ints, h.low); high = omega (arith, ints, h.high) }
 
-pub none_written : (arc : ℕ → ℕ → Option ℤ) (nodes : ℕ) (graph : Blocks) → IsWithoutArcs nodes graph
+pub none_written : (arc : ℕ → ℕ → Option ℤ) (nodes : ℕ) (graph : CostBlocks) → IsWithoutArcs nodes graph
     → AreWritten arc nodes 0 0 graph
 none_written arc nodes graph empty = record {
   nodes_are = empty.nodes;
@@ -199,8 +199,8 @@ none_written arc nodes graph empty = record {
   ];
 }
 
-pub one_written : (arc : ℕ → ℕ → Option ℤ) (nodes u v : ℕ) (before after : Blocks) (cost : Option ℤ)
-    → AreWritten arc nodes u v before → IsWritten before u v cost after → cost ≡ arc u v
+pub one_written : (arc : ℕ → ℕ → Option ℤ) (nodes u v : ℕ) (before after : CostBlocks) (cost : Option ℤ)
+    → AreWritten arc nodes u v before → IsCostWritten before u v cost after → cost ≡ arc u v
     → AreWritten arc nodes u (v + 1) after
 one_written arc nodes u v before after cost written one right = record {
   nodes_are = one.nodes ∙ written.nodes_are;
@@ -214,7 +214,7 @@ one_written arc nodes u v before after cost written one right = record {
   ];
 }
 
-pub row_written : (arc : ℕ → ℕ → Option ℤ) (nodes u v : ℕ) (graph : Blocks) → AreWritten arc nodes u v graph → nodes ≤ v
+pub row_written : (arc : ℕ → ℕ → Option ℤ) (nodes u v : ℕ) (graph : CostBlocks) → AreWritten arc nodes u v graph → nodes ≤ v
     → AreWritten arc nodes (u + 1) 0 graph
 row_written arc nodes u v graph written past = record {
   nodes_are = written.nodes_are;
@@ -228,7 +228,7 @@ row_written arc nodes u v graph written past = record {
 }
 
 -- where all rows are written, the graph is the exchange graph
-pub all_written : (firms : List Firm) (trades : List Ends) (on u : ℕ) (graph : Blocks)
+pub all_written : (firms : List Firm) (trades : List Ends) (on u : ℕ) (graph : CostBlocks)
     → AreWritten (exchange_arc firms trades on) (length trades + 1) u 0 graph → length trades + 1 ≤ u
     → IsLaidOut trades (has on) graph.places → IsExchangeGraph firms trades on graph
 all_written firms trades on u graph written past laid_out = record {
@@ -259,6 +259,6 @@ all_written firms trades on u graph written past laid_out = record {
         by (Some c) p f h = absurd (f c refl)
         by None (Some c) f h = absurd (h c refl)
 
-pub small_graph : (arc : ℕ → ℕ → Option ℤ) (limit : ℕ) (graph : Blocks) → AreSmall arc limit
+pub small_graph : (arc : ℕ → ℕ → Option ℤ) (limit : ℕ) (graph : CostBlocks) → AreSmall arc limit
     → ((u v : ℕ) → arcs_of graph u v ≡ arc u v) → AreSmall (arcs_of graph) limit
 small_graph arc limit graph small arcs u v cost is = small u v cost (sym (arcs u v) ∙ is)

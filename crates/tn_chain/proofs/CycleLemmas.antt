@@ -7,9 +7,9 @@ use Rattle.std.proofs.lemmas.Option.{same_Some}
 use Rattle.tn_base.specs.Sets.{has, toggle}
 use Rattle.tn_base.specs.Walks.{AreDifferent}
 use Rattle.tn_base.proofs.SetLemmas.{has-toggle_same, has-toggle_other, has-zero}
-use Rattle.tn_plain_data.specs.declared.contract.Contract.{Contract}
-use Rattle.tn_plain_data.specs.Prices.{price_at}
-use Rattle.tn_network.proofs.PoolLemmas.{append_cases}
+use Rattle.tn_model.specs.declared.contract.Contract.{Contract}
+use Rattle.tn_model.specs.Prices.{price_at}
+use Rattle.tn_network_laws.proofs.PoolLemmas.{append_cases}
 use Rattle.tn_residual.specs.Residual.{number_from}
 use Rattle.tn_chain.specs.Numbers.{toggled_if}
 use Rattle.tn_chain.specs.Listed.{HasNodes, AreAtNodes}

@@ -11,14 +11,14 @@ use Rattle.tn_base.specs.Arcs.{IsAtMost, AreSmall}
 use Rattle.tn_base.specs.Sets.{has, toggle, meet, sum_over}
 use Rattle.tn_base.specs.Firm.{Firm, plus_sum, payments}
 use Rattle.tn_base.proofs.SetLemmas.{same_set, has-zero, has-meet, has-toggle_other, toggle_within}
-use Rattle.tn_law.proofs.KeepLemmas.{option_map-some}
-use Rattle.tn_law.proofs.BoundLemmas.{times_small, sum_over_small}
-use Rattle.tn_plain_data.specs.declared.ends.Ends.{Ends}
-use Rattle.tn_plain_data.specs.declared.contract.Contract.{Contract}
-use Rattle.tn_plain_data.specs.Network.{own, part, IsNetwork}
+use Rattle.tn_firm_laws.proofs.KeepLemmas.{option_map-some}
+use Rattle.tn_firm_laws.proofs.BoundLemmas.{times_small, sum_over_small}
+use Rattle.tn_model.specs.declared.ends.Ends.{Ends}
+use Rattle.tn_model.specs.declared.contract.Contract.{Contract}
+use Rattle.tn_model.specs.Network.{own, part, IsNetwork}
 use Rattle.tn_market.specs.Valued.{IsWorthAtMost}
 use Rattle.tn_market.specs.Widths.{most_own, most_worth}
-use Rattle.tn_plain_data.specs.Limits.{most_numerator, most_over}
+use Rattle.tn_model.specs.Limits.{most_numerator, most_over}
 use Rattle.tn_market.specs.Traded.{Traded}
 use Rattle.tn_market.specs.Limits.{IsOutcomeOf, IsWithinLimits}
 use Rattle.tn_market.specs.Equilibrium.{prices_at}
@@ -27,11 +27,11 @@ use Rattle.tn_market.specs.Signed.{is_signed, signed_price, signed_bundle}
 use Rattle.tn_market.specs.Reduced.{reduced, reduced_firms, reduced_arc}
 use Rattle.tn_market.proofs.GraphLemmas.{buyer_end, seller_end, IsEnd}
 use Rattle.tn_market.proofs.AskLemmas.{payment_small}
-use Rattle.tn_network.proofs.SupportLemmas.{arcs_small}
-use Rattle.tn_outcome.proofs.SignedLemmas.{has-signed_bundle}
-use Rattle.tn_outcome.proofs.ArcLemmas.{reduced_arcs_are_unsigned}
-use Rattle.tn_outcome.proofs.AddingLemmas.{adding_one}
-use Rattle.tn_outcome.proofs.CompletionLemmas.{no_part, reduced_from_firm, reduced_network}
+use Rattle.tn_network_laws.proofs.SupportLemmas.{arcs_small}
+use Rattle.tn_outcome_laws.proofs.SignedLemmas.{has-signed_bundle}
+use Rattle.tn_outcome_laws.proofs.ArcLemmas.{reduced_arcs_are_unsigned}
+use Rattle.tn_outcome_laws.proofs.AddingLemmas.{adding_one}
+use Rattle.tn_outcome_laws.proofs.CompletionLemmas.{no_part, reduced_from_firm, reduced_network}
 use Rattle.tn_chain.specs.Moves.{move_between, arc_move}
 
 -- ---- an arc where nothing is on

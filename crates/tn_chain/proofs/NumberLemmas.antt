@@ -4,13 +4,13 @@ use Rattle.std.proofs.lemmas.Bool.{cases_eq, true≢false}
 use Rattle.tn_base.specs.Sets.{has, toggle, set_of, size}
 use Rattle.tn_base.proofs.SetLemmas.{has-toggle_same, has-toggle_other, has_above, set_of_within, has-zero}
 use Rattle.tn_base.proofs.SizeLemmas.{size-toggle_in, size-zero}
-use Rattle.tn_plain_data.specs.declared.ends.Ends.{Ends}
-use Rattle.tn_plain_data.specs.declared.contract.Contract.{Contract}
+use Rattle.tn_model.specs.declared.ends.Ends.{Ends}
+use Rattle.tn_model.specs.declared.contract.Contract.{Contract}
 use Rattle.tn_market.specs.Signed.{is_signed}
 use Rattle.tn_residual.specs.Residual.{number_from, unsigned, unsigned_from, unsigned_part}
 use Rattle.tn_residual.proofs.TradeLemmas.{free_count}
 use Rattle.tn_residual.proofs.PositionLemmas.{Setting, made}
-use Rattle.tn_chain.specs.Numbers.{number_in, toggled_if, added_if, is_among, AreNumbers, AreNumbersUpTo}
+use Rattle.tn_chain.specs.Numbers.{unsigned_number, toggled_if, added_if, is_among, AreNumbers, AreNumbersUpTo}
 use Rattle.tn_chain.proofs.SeenLemmas.{IsAdmitting}
 
 -- the next number is one more after an unsigned trade
@@ -241,7 +241,7 @@ number_small contracts (suc t) =
     by_case false is rest e = (let step = number_step contracts t false is in omega (arith, rest, e, step))
 
 pub number_is : (contracts : List Contract) (t number : ℕ) (none : Bool) → number ≡ number_from contracts 0 t
-    → none ≡ not (is_signed contracts t) → (if none then Some number else None) ≡ number_in contracts t
+    → none ≡ not (is_signed contracts t) → (if none then Some number else None) ≡ unsigned_number contracts t
 number_is contracts t number none is test = ap₂ (λ (b : Bool) (n : ℕ). if b then Some n else None) test is
     ∙ by_case (is_signed contracts t)
   where
@@ -251,7 +251,7 @@ number_is contracts t number none is test = ap₂ (λ (b : Bool) (n : ℕ). if b
     by_case false = refl
 
 pub numbers_more : (contracts : List Contract) (set t numbers next : ℕ) (number : Option ℕ)
-    → AreNumbers contracts set t numbers → number ≡ number_in contracts t → next ≡ added_if (has set t) number numbers
+    → AreNumbers contracts set t numbers → number ≡ unsigned_number contracts t → next ≡ added_if (has set t) number numbers
     → AreNumbers contracts set (t + 1) next
 numbers_more contracts set t numbers next number are number_is next_is = by_case (is_signed contracts t) refl
   where
@@ -269,7 +269,7 @@ numbers_more contracts set t numbers next number are number_is next_is = by_case
         ∙ ap (λ (o : Option ℕ). added_if (has set t) o numbers) some)
 
 pub part_more : (contracts : List Contract) (t numbers set next : ℕ) (number : Option ℕ)
-    → set ≡ unsigned_part contracts t numbers → number ≡ number_in contracts t
+    → set ≡ unsigned_part contracts t numbers → number ≡ unsigned_number contracts t
     → next ≡ toggled_if (is_among number numbers) set t → next ≡ unsigned_part contracts (t + 1) numbers
 unfolding set_of
 part_more contracts t numbers set next number before number_is is =

@@ -11,16 +11,16 @@ use Rattle.tn_base.specs.Walks.{walk_cost, arcs_among, is_admitted, AreDifferent
 use Rattle.tn_base.proofs.SetLemmas.{has-set_of, has-zero, has_below, same_below, set_of_within, within_from}
 use Rattle.tn_base.proofs.SizeLemmas.{size_at}
 use Rattle.tn_base.proofs.WalkLemmas.{walk_parts, both_are, walk-same, among-same}
-use Rattle.tn_plain_data.specs.declared.ends.Ends.{Ends}
-use Rattle.tn_plain_data.specs.declared.contract.Contract.{Contract}
+use Rattle.tn_model.specs.declared.ends.Ends.{Ends}
+use Rattle.tn_model.specs.declared.contract.Contract.{Contract}
 use Rattle.tn_market.specs.Best.{IsSubset}
 use Rattle.tn_market.specs.Signed.{is_signed}
 use Rattle.tn_market.specs.Reduced.{reduced_firms, reduced_arc}
 use Rattle.tn_cycle.specs.Answers.{IsNegative}
 use Rattle.tn_flow.specs.Solved.{Solution}
-use Rattle.tn_graph.specs.Blocks.{Blocks, arcs_of}
+use Rattle.tn_graph.specs.Blocks.{CostBlocks, arcs_of}
 use Rattle.tn_graph.specs.Reading.{IsExchangeGraph}
-use Rattle.tn_outcome.specs.Rational.{IsRationalOutcome}
+use Rattle.tn_outcome_laws.specs.Rational.{IsRationalOutcome}
 use Rattle.tn_residual.specs.Residual.{number_from, unsigned, unsigned_part}
 use Rattle.tn_blocking_laws.specs.Taxed.{IsTaxedEquilibrium}
 use Rattle.tn_blocking_laws.proofs.TaxLemmas.{some_on_is_cycle}
@@ -176,7 +176,7 @@ pub record IsRound (firms : List Firm) (trades : List Ends) (over : ℤ) (contra
   pub solved : IsSolvedAmong firms trades over contracts cycle solution
 
 -- the graph that was read has the same cycle
-pub found_in_graph : (firms : List Firm) (trades : List Ends) (over : ℤ) (contracts : List Contract) (graph : Blocks)
+pub found_in_graph : (firms : List Firm) (trades : List Ends) (over : ℤ) (contracts : List Contract) (graph : CostBlocks)
     → IsExchangeGraph (reduced_firms trades over contracts firms) trades 0 graph
     → (left : ℕ) (listed : List ℕ) (cost : ℤ) (count : ℕ)
     → IsNegative (length trades + 1) (arcs_among (is_admitted (length trades) left) (arcs_of graph)) listed cost
@@ -200,7 +200,7 @@ found_in_graph firms trades over contracts graph is left listed cost count found
 }
 
 -- and no numbers keep it
-pub broken_in_graph : (firms : List Firm) (trades : List Ends) (over : ℤ) (contracts : List Contract) (graph : Blocks)
+pub broken_in_graph : (firms : List Firm) (trades : List Ends) (over : ℤ) (contracts : List Contract) (graph : CostBlocks)
     → IsExchangeGraph (reduced_firms trades over contracts firms) trades 0 graph
     → (left : ℕ) → HasCycle firms trades over contracts left → (label : ℕ → ℤ)
     → KeepsArcs (arcs_among (is_admitted (length trades) left) (arcs_of graph)) label → ⊥

@@ -9,11 +9,11 @@ use Rattle.tn_base.specs.Firm.{Firm, plus_sum, payments, among, IsBest}
 use Rattle.tn_base.proofs.SetLemmas.{has-set_of, has-minus, has_below, set_of_within, minus-zero_from, has_from_minus-zero, minus_within, toggle_within}
 use Rattle.tn_base.proofs.SizeLemmas.{size_at}
 use Rattle.tn_base.proofs.SumLemmas.{sum_over-toggle_in, sum_over-toggle_out}
-use Rattle.tn_law.proofs.FavourLemmas.{IsFavoured, Favours, favoured_best}
-use Rattle.tn_law.proofs.KeepLemmas.{option_map-some}
-use Rattle.tn_plain_data.specs.declared.ends.Ends.{Ends}
-use Rattle.tn_plain_data.specs.declared.contract.Contract.{Contract}
-use Rattle.tn_plain_data.specs.Network.{own, part, stands_at}
+use Rattle.tn_firm_laws.proofs.FavourLemmas.{IsFavoured, Favours, favoured_best}
+use Rattle.tn_firm_laws.proofs.KeepLemmas.{option_map-some}
+use Rattle.tn_model.specs.declared.ends.Ends.{Ends}
+use Rattle.tn_model.specs.declared.contract.Contract.{Contract}
+use Rattle.tn_model.specs.Network.{own, part, stands_at}
 use Rattle.tn_market.specs.Best.{IsSubset}
 use Rattle.tn_market.specs.Equilibrium.{prices_at, HasBest, IsEquilibrium}
 use Rattle.tn_market.specs.Admitted.{admitted}
@@ -23,11 +23,11 @@ use Rattle.tn_market.specs.Signed.{is_signed, signed_price, signed_bundle}
 use Rattle.tn_market.specs.Reduced.{reduced, reduced_firms}
 use Rattle.tn_market.proofs.GraphLemmas.{has-part, seller_end, buyer_end, same_firm, IsEnd}
 use Rattle.tn_market.proofs.LevyLemmas.{levy_is}
-use Rattle.tn_plain_data.proofs.NetworkLemmas.{one_trade}
-use Rattle.tn_network.proofs.AdmittedLemmas.{admitted_is, admitted_from_firm, among_inside, among_parts, part_inside}
-use Rattle.tn_network.proofs.PartLemmas.{own_once}
-use Rattle.tn_outcome.proofs.SignedLemmas.{has-signed_bundle}
-use Rattle.tn_outcome.proofs.CompletionLemmas.{reduced_from_firm}
+use Rattle.tn_model.proofs.NetworkLemmas.{one_trade}
+use Rattle.tn_network_laws.proofs.AdmittedLemmas.{admitted_is, admitted_from_firm, among_inside, among_parts, part_inside}
+use Rattle.tn_network_laws.proofs.PartLemmas.{own_once}
+use Rattle.tn_outcome_laws.proofs.SignedLemmas.{has-signed_bundle}
+use Rattle.tn_outcome_laws.proofs.CompletionLemmas.{reduced_from_firm}
 use Rattle.tn_residual.specs.Residual.{sold_to, bought_from, number_from, unsigned, unsigned_part}
 use Rattle.tn_residual.proofs.TradeLemmas.{have_trades, free_count, half_trades, outside_firm}
 use Rattle.tn_residual.proofs.ResidualLemmas.{first_bought, second_sold, stands_sold, stands_bought, StandsFor}

@@ -14,18 +14,18 @@ use Rattle.tn_base.specs.Walks.{AreDifferent}
 use Rattle.tn_base.specs.Widths.{most_cost}
 use Rattle.tn_base.proofs.SetLemmas.{has_above, has-set_of, set_of_within}
 use Rattle.tn_base.proofs.SizeLemmas.{size-toggle_in, size-zero}
-use Rattle.tn_law.proofs.BoundLemmas.{abs_small, times_small}
-use Rattle.tn_plain_data.specs.declared.ends.Ends.{Ends}
-use Rattle.tn_plain_data.specs.declared.contract.Contract.{Contract}
-use Rattle.tn_plain_data.specs.Prices.{price_at}
-use Rattle.tn_plain_data.specs.Limits.{few_trades, most_claimed_over, most_number, most_numerator, most_over, most_own_trades, most_sets, most_worth_among}
-use Rattle.tn_plain_data.specs.Choices.{IsFeasible}
+use Rattle.tn_firm_laws.proofs.BoundLemmas.{abs_small, times_small}
+use Rattle.tn_model.specs.declared.ends.Ends.{Ends}
+use Rattle.tn_model.specs.declared.contract.Contract.{Contract}
+use Rattle.tn_model.specs.Prices.{price_at}
+use Rattle.tn_model.specs.Limits.{few_trades, most_claimed_over, most_number, most_numerator, most_over, most_own_trades, most_sets, most_worth_among}
+use Rattle.tn_model.specs.Choices.{IsFeasible}
 use Rattle.tn_market.specs.Limits.{IsOutcomeOf}
 use Rattle.tn_market.specs.Traded.{Traded}
 use Rattle.tn_market.specs.Widths.{most_worth}
 use Rattle.tn_market.specs.Signed.{is_signed, signed}
 use Rattle.tn_flow.specs.Solved.{AreSmallPrices}
-use Rattle.tn_outcome.proofs.SignedLemmas.{signed_by}
+use Rattle.tn_outcome_laws.proofs.SignedLemmas.{signed_by}
 use Rattle.tn_residual.specs.Residual.{residual_limit, residual_of, residual_trades, unsigned, unsigned_from, halves_from}
 use Rattle.tn_residual.proofs.MakingLemmas.{halves_few, outcome_feasible}
 use Rattle.tn_blocking_laws.proofs.CycleLemmas.{few, visits-all}

@@ -5,15 +5,15 @@ use Rattle.std.proofs.lemmas.Nat.{mul-le}
 use Rattle.std.proofs.lemmas.Bool.{cases_lt, true≢false}
 use Rattle.tn_base.specs.Sets.{has, size}
 use Rattle.tn_base.specs.Firm.{Firm, HasOwnBundles}
-use Rattle.tn_plain_data.specs.declared.ends.Ends.{Ends}
-use Rattle.tn_plain_data.specs.declared.contract.Contract.{Contract}
-use Rattle.tn_plain_data.specs.Network.{IsNetwork}
-use Rattle.tn_plain_data.specs.Prices.{price_at}
-use Rattle.tn_plain_data.specs.Choices.{IsFeasible}
+use Rattle.tn_model.specs.declared.ends.Ends.{Ends}
+use Rattle.tn_model.specs.declared.contract.Contract.{Contract}
+use Rattle.tn_model.specs.Network.{IsNetwork}
+use Rattle.tn_model.specs.Prices.{price_at}
+use Rattle.tn_model.specs.Choices.{IsFeasible}
 use Rattle.tn_market.specs.Limits.{AreWorthsWithin}
 use Rattle.tn_market.specs.Traded.{Traded}
 use Rattle.tn_market.specs.Valued.{IsWorthAtMost}
-use Rattle.tn_network.proofs.EachLemmas.{each_within}
+use Rattle.tn_network_laws.proofs.EachLemmas.{each_within}
 use Rattle.tn_flow.specs.Solved.{Solution, IsSolution, AreSmallPrices}
 use Rattle.tn_residual.specs.Residual.{residual_limit, unsigned}
 use Rattle.tn_residual.proofs.TradeLemmas.{free_count}

@@ -1,6 +1,6 @@
 -- How large a market may be on which outcomes are judged, and how large what is made of it then is.
 use Rattle.std.specs.Prelude.{ℕ, ◌+◌, ◌*◌}
-use Rattle.tn_plain_data.specs.Limits.{most_numerator, most_over, most_trades}
+use Rattle.tn_model.specs.Limits.{most_numerator, most_over, most_trades}
 use Rattle.tn_market.specs.Widths.{most_own, most_worth}
 
 -- the most trades of a market on which an outcome is judged: more, and a residual market's prices may not fit

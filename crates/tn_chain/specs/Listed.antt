@@ -1,8 +1,8 @@
 -- What is made of the nodes of a cycle.
 use Rattle.std.specs.Prelude.{◌≡◌, ◌≢◌, ◌⊎◌, ℕ, ◌+◌, ◌<◌, ℤ, List, length, slice_get, true, Some}
 use Rattle.tn_base.specs.Sets.{has}
-use Rattle.tn_plain_data.specs.declared.contract.Contract.{Contract}
-use Rattle.tn_plain_data.specs.Prices.{price_at}
+use Rattle.tn_model.specs.declared.contract.Contract.{Contract}
+use Rattle.tn_model.specs.Prices.{price_at}
 use Rattle.tn_residual.specs.Residual.{number_from}
 
 -- the set has those of the first k nodes that are trades, and no others

@@ -2,10 +2,10 @@
 use Rattle.std.specs.Prelude.{◌≡◌, ℕ, ◌<◌, ℤ, ◌⊎◌, List, length, slice_get, slice_index_or, ◌==◌, if◌then◌else◌, Option, Some, None}
 use Rattle.tn_base.specs.Firm.{Firm}
 use Rattle.tn_base.specs.Sets.{toggle}
-use Rattle.tn_plain_data.specs.declared.contract.Contract.{Contract}
-use Rattle.tn_plain_data.specs.declared.ends.Ends.{Ends}
+use Rattle.tn_model.specs.declared.contract.Contract.{Contract}
+use Rattle.tn_model.specs.declared.ends.Ends.{Ends}
 use Rattle.tn_market.specs.Reduced.{reduced}
-use Rattle.tn_graph.specs.Blocks.{Blocks, arcs_of}
+use Rattle.tn_graph.specs.Blocks.{CostBlocks, arcs_of}
 
 -- the firm that buys the one trade and sells the other, with the bundle of the two; none where these are two firms, and
 -- for the null node there is nothing to buy or to sell
@@ -21,7 +21,7 @@ abbrev pub arc_move : List Ends → ℕ → ℕ → Option (ℕ × ℕ)
 arc_move trades u v = move_between (slice_get trades u) (slice_get trades v)
 
 -- the costs of the arcs from the first u nodes, and from node u to the first v ones, are written
-pub record AreWritten (arc : ℕ → ℕ → Option ℤ) (nodes u v : ℕ) (graph : Blocks) : Type 0 where
+pub record AreWritten (arc : ℕ → ℕ → Option ℤ) (nodes u v : ℕ) (graph : CostBlocks) : Type 0 where
   pub nodes_are : graph.nodes ≡ nodes
   pub written : (a b : ℕ) → b < nodes → (a < u) ⊎ ((a ≡ u) × (b < v)) → arcs_of graph a b ≡ arc a b
 

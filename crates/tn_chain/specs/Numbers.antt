@@ -1,13 +1,13 @@
 -- The numbers that the unsigned trades have among themselves, and sets of them.
 use Rattle.std.specs.Prelude.{◌≡◌, ℕ, ◌<◌, ◌≤◌, List, Bool, true, false, if◌then◌else◌, Option, Some, None}
 use Rattle.tn_base.specs.Sets.{has, toggle}
-use Rattle.tn_plain_data.specs.declared.contract.Contract.{Contract}
+use Rattle.tn_model.specs.declared.contract.Contract.{Contract}
 use Rattle.tn_market.specs.Signed.{is_signed}
 use Rattle.tn_residual.specs.Residual.{number_from}
 
 -- the number of an unsigned trade, none for a signed one
-abbrev pub number_in : List Contract → ℕ → Option ℕ
-number_in contracts t = if is_signed contracts t then None else Some (number_from contracts 0 t)
+abbrev pub unsigned_number : List Contract → ℕ → Option ℕ
+unsigned_number contracts t = if is_signed contracts t then None else Some (number_from contracts 0 t)
 
 -- the set with a member moved in or out where that is wanted
 abbrev pub toggled_if : Bool → ℕ → ℕ → ℕ

@@ -5,12 +5,12 @@ use Rattle.tn_base.specs.Sets.{size}
 use Rattle.tn_base.specs.Firm.{Firm}
 use Rattle.tn_base.specs.Walks.{arcs_among, is_admitted, KeepsArcs}
 use Rattle.tn_base.specs.Widths.{most_cost}
-use Rattle.tn_plain_data.specs.declared.ends.Ends.{Ends}
-use Rattle.tn_plain_data.specs.declared.contract.Contract.{Contract}
-use Rattle.tn_plain_data.specs.Prices.{price_at}
-use Rattle.tn_plain_data.specs.Limits.{most_number}
+use Rattle.tn_model.specs.declared.ends.Ends.{Ends}
+use Rattle.tn_model.specs.declared.contract.Contract.{Contract}
+use Rattle.tn_model.specs.Prices.{price_at}
+use Rattle.tn_model.specs.Limits.{most_number}
 use Rattle.tn_market.specs.Best.{IsSubset}
-use Rattle.tn_plain_data.specs.Choices.{Blocks}
+use Rattle.tn_model.specs.Choices.{Blocks}
 use Rattle.tn_market.specs.Chains.{IsChain}
 use Rattle.tn_market.specs.Signed.{is_signed}
 use Rattle.tn_market.specs.Reduced.{reduced_arc}

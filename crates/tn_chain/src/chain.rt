@@ -8,12 +8,12 @@ ghost use Rattle.tn_chain.specs.Search.{HasCycle, IsBlockingChain, IsResidual, I
 ghost use Rattle.tn_cycle.specs.Answers.{IsNegative};
 ghost use Rattle.tn_graph.specs.Blocks.{arcs_of};
 ghost use Rattle.tn_graph.specs.Reading.{IsExchangeGraph};
-ghost use Rattle.tn_plain_data.specs.Choices.{IsIndividuallyRational};
+ghost use Rattle.tn_model.specs.Choices.{IsIndividuallyRational};
 ghost use Rattle.tn_market.specs.Limits.{IsOutcomeOf, IsWithinLimits};
-ghost use Rattle.tn_plain_data.specs.Network.{IsNetwork};
+ghost use Rattle.tn_model.specs.Network.{IsNetwork};
 ghost use Rattle.tn_market.specs.Reduced.{reduced_firms};
 ghost use Rattle.tn_market.specs.Signed.{Completes};
-ghost use Rattle.tn_outcome.specs.Rational.{IsRationalOutcome};
+ghost use Rattle.tn_outcome_laws.specs.Rational.{IsRationalOutcome};
 ghost use Rattle.tn_residual.specs.Residual.{unsigned};
 ghost use Rattle.tn_market.specs.NetworkOf.{network_of};
 

@@ -5,7 +5,7 @@ ghost use Rattle.tn_base.specs.Walks.{AreDifferent};
 ghost use Rattle.tn_chain.specs.Limits.{most_judged_trades};
 ghost use Rattle.tn_chain.specs.Listed.{AreAtNodes, HasNodes, IsBegin};
 ghost use Rattle.tn_chain.specs.Numbers.{toggled_if};
-ghost use Rattle.tn_plain_data.specs.Prices.{price_at};
+ghost use Rattle.tn_model.specs.Prices.{price_at};
 ghost use Rattle.tn_market.specs.Signed.{is_signed};
 ghost use Rattle.tn_residual.specs.Residual.{number_from};
 

@@ -10,7 +10,7 @@ ghost use Rattle.tn_graph.specs.Layout.{IsLaidOut};
 ghost use Rattle.tn_graph.specs.Reading.{IsExchangeGraph};
 ghost use Rattle.tn_market.specs.Limits.{IsOutcomeOf, IsWithinLimits};
 ghost use Rattle.tn_market.specs.Graph.{loss};
-ghost use Rattle.tn_plain_data.specs.Network.{IsNetwork};
+ghost use Rattle.tn_model.specs.Network.{IsNetwork};
 ghost use Rattle.tn_market.specs.Reduced.{reduced, reduced_arc, reduced_firms};
 ghost use Rattle.tn_market.specs.Signed.{signed_bundle};
 ghost use Rattle.tn_market.specs.NetworkOf.{network_of};

@@ -3,7 +3,7 @@
 ghost use Rattle.std.specs.Prelude.{◌≡◌, ℕ, ◌+◌, ◌^◌, ◌≤◌, ◌<◌, false, IfSome, if◌then◌else◌};
 ghost use Rattle.tn_base.specs.Sets.{has};
 ghost use Rattle.tn_chain.specs.Limits.{most_judged_trades, most_residual_trades};
-ghost use Rattle.tn_chain.specs.Numbers.{AreNumbers, AreNumbersUpTo, added_if, is_among, number_in, toggled_if};
+ghost use Rattle.tn_chain.specs.Numbers.{AreNumbers, AreNumbersUpTo, added_if, is_among, toggled_if, unsigned_number};
 ghost use Rattle.tn_residual.specs.Residual.{number_from, unsigned, unsigned_part};
 
 use tn_base::TradeSet;
@@ -78,7 +78,7 @@ fn unsigned_before(contracts: &Contracts, t: u32) -> u32
 /// The number of trade `t` among the unsigned ones, None where it is signed.
 pub fn number_of(contracts: &Contracts, t: u32) -> Option<u32>
     requires few { t < most_judged_trades }
-    ensures number { result ≡ number_in contracts.now t }
+    ensures number { result ≡ unsigned_number contracts.now t }
     ensures small { IfSome result (λ n. n < most_judged_trades) }
 {
     let number = unsigned_before(contracts, t);

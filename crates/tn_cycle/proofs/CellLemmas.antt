@@ -13,12 +13,12 @@ use Rattle.tn_cycle.proofs.WalkLemmas.{walk_small}
 -- the costs of cells that lead along short walks are far from the limits of their type
 pub led_room : (nodes : ℕ) (arc : ℕ → ℕ → Option ℤ) (end : ℕ) (cell : ℕ → Cell) → AreSmall arc most_cost
     → nodes ≤ most_graph_nodes + 1
-    → ((v : ℕ) → v < nodes → walk_cost arc v (trail cell (cell v).round v) end ≡ (cell v).cost)
-    → ((v : ℕ) → v < nodes → (cell v).round < nodes) → HasRoom nodes cell
+    → ((v : ℕ) → v < nodes → walk_cost arc v (trail cell (cell v).inner_nodes v) end ≡ (cell v).cost)
+    → ((v : ℕ) → v < nodes → (cell v).inner_nodes < nodes) → HasRoom nodes cell
 led_room nodes arc end cell small few leads short v inside cost is =
-    let whole = walk_small arc most_cost small v (trail cell (cell v).round v) end cost (leads v inside ∙ is) in
-    let size : length (trail cell (cell v).round v) ≡ (cell v).round = length-trail cell (cell v).round v in
-    let fewer : (cell v).round < nodes = short v inside in
+    let whole = walk_small arc most_cost small v (trail cell (cell v).inner_nodes v) end cost (leads v inside ∙ is) in
+    let size : length (trail cell (cell v).inner_nodes v) ≡ (cell v).inner_nodes = length-trail cell (cell v).inner_nodes v in
+    let fewer : (cell v).inner_nodes < nodes = short v inside in
     record {
       low = omega (arith, ints, whole.low, size, fewer, few);
       high = omega (arith, ints, whole.high, size, fewer, few);

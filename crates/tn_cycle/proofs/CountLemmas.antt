@@ -3,7 +3,7 @@ use Rattle.std.proofs.Common.{◌≡◌, ◌≢◌, ℕ, zero, suc, ◌+◌, ◌
 use Rattle.std.proofs.lemmas.Bool.{cases_eq, eq-eqb, ne_eqb}
 use Rattle.tn_base.specs.Arcs.{ListsPredecessors}
 use Rattle.tn_cycle.specs.declared.cell.Cell.{Cell}
-use Rattle.tn_cycle.specs.Kept.{AreReady, every, is_ready, node_at}
+use Rattle.tn_cycle.specs.Kept.{AreReady, every, is_ready, node_in_list}
 
 -- how many of the first nodes wait
 abbrev pub one_if : Bool → ℕ
@@ -91,7 +91,7 @@ pub ready_fewer : (nodes : ℕ) (waits : ℕ → Bool) (cell : ℕ → Cell) (li
     → AreReady nodes waits cell list count → v < nodes → waits v ≡ false → count < nodes
 ready_fewer nodes waits cell list count v lists inside shut = omega (
   arith,
-  listed_most count nodes (λ u. is_ready (waits u) (cell u)) (node_at list) lists.each lists.once,
+  listed_most count nodes (λ u. is_ready (waits u) (cell u)) (node_in_list list) lists.each lists.once,
   waiting_fewer nodes (λ u. is_ready (waits u) (cell u)) v inside (ap (λ (s : Bool). is_ready s (cell v)) shut),
 )
 

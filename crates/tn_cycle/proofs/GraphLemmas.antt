@@ -6,7 +6,7 @@ use Rattle.std.proofs.lemmas.List.Elements.{All-nil, All-cons}
 use Rattle.tn_base.specs.Arcs.{AreBetweenNodes}
 use Rattle.tn_base.specs.Options.{both}
 use Rattle.tn_base.specs.Walks.{walk_cost, arcs_among, HasNoNegativeCycle, KeepsArcs}
-use Rattle.tn_cycle.specs.Graphs.{is_between, with_sink}
+use Rattle.tn_cycle.specs.Graphs.{is_trade_from, with_sink}
 use Rattle.tn_cycle.specs.GraphLemmas.{some_if}
 use Rattle.tn_cycle.specs.Searched.{HasNoNegativeCycleOff}
 use Rattle.tn_cycle.specs.Kept.{KeepsArcsAvoiding}
@@ -85,20 +85,20 @@ walk_passes test arc u (v ∷ vs) w cost walk =
 
 -- all trades are the graph off the null node
 pub off_null : (null : ℕ) (arc : ℕ → ℕ → Option ℤ) → AreBetweenNodes (null + 1) arc → (a b : ℕ) → a ≢ null → b ≢ null
-    → arc a b ≡ arcs_among (is_between 0 null) arc a b
+    → arc a b ≡ arcs_among (is_trade_from 0 null) arc a b
 off_null null arc between a b p q = by (arc a b) refl
   where
-    inside : (v : ℕ) → v < null + 1 → v ≢ null → is_between 0 null v ≡ true
+    inside : (v : ℕ) → v < null + 1 → v ≢ null → is_trade_from 0 null v ≡ true
     inside v h other =
         ap (λ (s : Bool). s && nat_lt v null) (le-leb 0 v (omega arith)) ∙ lt-ltb v null (omega (arith, h, other))
 
-    kept : a < null + 1 → b < null + 1 → arcs_among (is_between 0 null) arc a b ≡ arc a b
+    kept : a < null + 1 → b < null + 1 → arcs_among (is_trade_from 0 null) arc a b ≡ arc a b
     kept h k =
-        ap (λ (s : Bool). if s && is_between 0 null b then arc a b else None) (inside a h p)
+        ap (λ (s : Bool). if s && is_trade_from 0 null b then arc a b else None) (inside a h p)
         ∙ ap (λ (s : Bool). if s then arc a b else None) (inside b k q)
 
-    by : (o : Option ℤ) → arc a b ≡ o → arc a b ≡ arcs_among (is_between 0 null) arc a b
+    by : (o : Option ℤ) → arc a b ≡ o → arc a b ≡ arcs_among (is_trade_from 0 null) arc a b
     by (Some cost) e = let two = between a b cost e in sym (kept two.0 two.1)
     by None e = e
-        ∙ sym (cond_both (is_between 0 null a && is_between 0 null b) (arc a b) None (λ z. z ≡ None) (λ _. e)
+        ∙ sym (cond_both (is_trade_from 0 null a && is_trade_from 0 null b) (arc a b) None (λ z. z ≡ None) (λ _. e)
         (λ _. refl))

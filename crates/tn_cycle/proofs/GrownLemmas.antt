@@ -10,7 +10,7 @@ use Rattle.tn_base.specs.Walks.{arcs_among, KeepsArcs, KeepsArcsEntering}
 use Rattle.tn_cycle.specs.declared.answer.Path.{Path}
 use Rattle.tn_cycle.specs.declared.answer.Path.TheVariants as path
 use Rattle.tn_cycle.specs.GraphLemmas.{some_if}
-use Rattle.tn_cycle.specs.Graphs.{is_between}
+use Rattle.tn_cycle.specs.Graphs.{is_trade_from}
 use Rattle.tn_cycle.specs.Kept.{KeepsArcsAvoiding}
 use Rattle.tn_cycle.specs.Answers.{AnswersCycle, AnswersGrown, AreNear, arc_count, cost_of, label_in}
 use Rattle.tn_cycle.specs.Widths.{most_label}
@@ -24,11 +24,11 @@ near_more reach more labels within near v inside =
 -- labels keep the arcs among all trades, and so those of the graph that avoid the null node
 pub null_avoiding : (nodes null first : ℕ) (arc : ℕ → ℕ → Option ℤ) (label : ℕ → ℤ) → nodes ≡ null + 1 → first ≡ 0
     → AreBetweenNodes nodes arc
-    → KeepsArcs (arcs_among (is_between first null) arc) label → KeepsArcsAvoiding arc null label
+    → KeepsArcs (arcs_among (is_trade_from first null) arc) label → KeepsArcsAvoiding arc null label
 null_avoiding nodes null first arc label last e between keeps =
-    keeps_avoiding arc (arcs_among (is_between 0 null) arc) null label
+    keeps_avoiding arc (arcs_among (is_trade_from 0 null) arc) null label
     (off_null null arc (subst (λ (k : ℕ). AreBetweenNodes k arc) last between))
-    (subst (λ (k : ℕ). KeepsArcs (arcs_among (is_between k null) arc) label) e keeps)
+    (subst (λ (k : ℕ). KeepsArcs (arcs_among (is_trade_from k null) arc) label) e keeps)
 
 -- labels keep all arcs where those that end at the node find its own label
 entered_keeps : (arc : ℕ → ℕ → Option ℤ) (node : ℕ) (label : ℕ → ℤ)
@@ -52,12 +52,12 @@ none_keeps arc node label listed (path.Cycle cost count) answer entering few =
 -- a cycle among the trades from one on begins with the lowest
 pub part_grown : (nodes null first : ℕ) (arc : ℕ → ℕ → Option ℤ) (listed : List ℕ) (labels : List ℤ) (found : Path)
     → null + 1 ≡ nodes
-    → AnswersCycle (arcs_among (is_between first null) arc) first listed found → 0 < arc_count found
+    → AnswersCycle (arcs_among (is_trade_from first null) arc) first listed found → 0 < arc_count found
     → AnswersGrown nodes arc listed labels found
 part_grown nodes null first arc listed labels path.None last answer some = absurd (omega (arith, some))
 part_grown nodes null first arc listed labels (path.Cycle cost count) last answer some =
     let walk = answer.least.cycle.walk in
-    let passes = walk_passes (is_between first null) arc first answer.rest first cost walk in
+    let passes = walk_passes (is_trade_from first null) arc first answer.rest first cost walk in
     record {
       first = first;
       rest = answer.rest;
@@ -65,12 +65,12 @@ part_grown nodes null first arc listed labels (path.Cycle cost count) last answe
       counted = answer.counted;
       negative = answer.negative;
       cycle = record {
-        walk = walk_among (is_between first null) arc first answer.rest first cost walk;
+        walk = walk_among (is_trade_from first null) arc first answer.rest first cost walk;
         different =
             answer.least.cycle.different;
       };
       begins = inr (subst (All (λ v. (first ≤ v) × (v + 1 < nodes))) (sym answer.nodes_are)
-          (All-weaker (λ v. is_between first null v ≡ true) (λ v. (first ≤ v) × (v + 1 < nodes))
+          (All-weaker (λ v. is_trade_from first null v ≡ true) (λ v. (first ≤ v) × (v + 1 < nodes))
           (λ v h. let two = and_parts (nat_le first v) (nat_lt v null) h in
           (leb-true first v two.0, omega (arith, ltb-true v null two.1, last)))
           (first ∷ answer.rest) passes));
@@ -94,7 +94,7 @@ whole_grown nodes null arc listed labels (path.Cycle cost count) last answer ent
 }
 
 -- off the first one, the same nodes are trades from it on and from the next on
-between_same : (first null v : ℕ) → v ≢ first → is_between first null v ≡ is_between (first + 1) null v
+between_same : (first null v : ℕ) → v ≢ first → is_trade_from first null v ≡ is_trade_from (first + 1) null v
 between_same first null v off = ap (λ (b : Bool). b && nat_lt v null) (same first v off)
   where
     same : (first v : ℕ) → v ≢ first → nat_le first v ≡ nat_le (first + 1) v
@@ -102,12 +102,12 @@ between_same first null v off = ap (λ (b : Bool). b && nat_lt v null) (same fir
 
 -- marks of the trades after the first one are those of its graph without it
 module _ (first null places : ℕ) (mark : ℕ → Bool)
-    (marks : (v : ℕ) → v < places → mark v ≡ is_between (first + 1) null v) where
+    (marks : (v : ℕ) → v < places → mark v ≡ is_trade_from (first + 1) null v) where
   pub marked_off : (arc : ℕ → ℕ → Option ℤ) → null ≤ places → (v u : ℕ) (cost : ℤ) → v ≢ first
-      → arcs_among (is_between first null) arc v u ≡ Some cost → mark v ≡ true
+      → arcs_among (is_trade_from first null) arc v u ≡ Some cost → mark v ≡ true
   marked_off arc room v u cost off is =
-      let both = (some_if (is_between first null v && is_between first null u) (arc v u) cost is).0 in
-      let own : is_between first null v ≡ true = (and_parts (is_between first null v) (is_between first null u) both).0
+      let both = (some_if (is_trade_from first null v && is_trade_from first null u) (arc v u) cost is).0 in
+      let own : is_trade_from first null v ≡ true = (and_parts (is_trade_from first null v) (is_trade_from first null u) both).0
       in
       let below : v < null = ltb-true v null (and_parts (nat_le first v) (nat_lt v null) own).1 in
       marks v (omega (arith, below, room)) ∙ sym (between_same first null v off) ∙ own
@@ -120,29 +120,29 @@ module _ (first null places : ℕ) (mark : ℕ → Bool)
 
 -- labels that keep the arcs among the trades after the first one
 pub first_avoiding : (first next null : ℕ) (arc : ℕ → ℕ → Option ℤ) (label : ℕ → ℤ) → next ≡ first + 1
-    → KeepsArcs (arcs_among (is_between next null) arc) label
-    → KeepsArcsAvoiding (arcs_among (is_between first null) arc) first label
+    → KeepsArcs (arcs_among (is_trade_from next null) arc) label
+    → KeepsArcsAvoiding (arcs_among (is_trade_from first null) arc) first label
 first_avoiding first next null arc label is keeps =
-    keeps_avoiding (arcs_among (is_between first null) arc) (arcs_among (is_between (first + 1) null) arc) first label
-    (λ a b a_off b_off. ap (λ (t : Bool). if t && is_between first null b then arc a b else None)
+    keeps_avoiding (arcs_among (is_trade_from first null) arc) (arcs_among (is_trade_from (first + 1) null) arc) first label
+    (λ a b a_off b_off. ap (λ (t : Bool). if t && is_trade_from first null b then arc a b else None)
     (between_same first null a a_off)
-    ∙ ap (λ (t : Bool). if is_between (first + 1) null a && t then arc a b else None) (between_same first null b b_off))
-    (subst (λ (k : ℕ). KeepsArcs (arcs_among (is_between k null) arc) label) is keeps)
+    ∙ ap (λ (t : Bool). if is_trade_from (first + 1) null a && t then arc a b else None) (between_same first null b b_off))
+    (subst (λ (k : ℕ). KeepsArcs (arcs_among (is_trade_from k null) arc) label) is keeps)
 
 -- marks of all trades
 module _ (nodes null places : ℕ) (mark : ℕ → Bool) (last : nodes ≡ null + 1) (room : nodes ≤ places)
-    (marks : (v : ℕ) → v < places → mark v ≡ is_between 0 null v) where
+    (marks : (v : ℕ) → v < places → mark v ≡ is_trade_from 0 null v) where
   pub marked_all : (arc : ℕ → ℕ → Option ℤ) → AreBetweenNodes nodes arc → (v u : ℕ) (cost : ℤ) → v ≢ null
       → arc v u ≡ Some cost → mark v ≡ true
   marked_all arc between v u cost off is =
       let inside : v < nodes = (between v u cost is).0 in
       marks v (omega (arith, inside, room)) ∙ below v null (omega (arith, inside, last, off))
     where
-      below : (v null : ℕ) → v < null → is_between 0 null v ≡ true
+      below : (v null : ℕ) → v < null → is_trade_from 0 null v ≡ true
       below v null less = ap (λ (b : Bool). b && nat_lt v null) (le-leb 0 v (omega arith)) ∙ lt-ltb v null less
 
   pub null_unmarked : mark null ≡ false
   null_unmarked = marks null (omega (arith, last, room)) ∙ none null
     where
-      none : (null : ℕ) → is_between 0 null null ≡ false
+      none : (null : ℕ) → is_trade_from 0 null null ≡ false
       none null = ap (λ (b : Bool). b && nat_lt null null) (le-leb 0 null (omega arith)) ∙ le-ltb null null (omega arith)

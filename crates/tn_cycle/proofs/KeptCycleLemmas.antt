@@ -18,7 +18,7 @@ use Rattle.tn_cycle.specs.Cells.{HasRoom, trail}
 use Rattle.tn_cycle.specs.Graphs.{with_sink}
 use Rattle.tn_cycle.specs.GraphLemmas.{between-with_sink, some_if}
 use Rattle.tn_cycle.specs.Searched.{IsSettled}
-use Rattle.tn_cycle.specs.Kept.{AreRaised, IsCycleRead, IsLifted, IsLiftedBy, IsRaised, IsStopped, KeepsArcsAvoiding, KeepsArcsOff, signed}
+use Rattle.tn_cycle.specs.Kept.{AreRaised, IsCycleRead, IsLifted, IsLiftedBy, IsRaised, IsStopped, KeepsArcsAvoiding, KeepsArcsOff, negated_if}
 use Rattle.tn_cycle.specs.Widths.{most_graph_nodes}
 use Rattle.tn_cycle.proofs.KeyLemmas.{same_cost}
 use Rattle.tn_cycle.proofs.LabelLemmas.{none_negative_kept}
@@ -75,12 +75,12 @@ raise_left labels old v new left k above =
 
 -- one label more is signed
 pub sign_next : (labels old : List ℤ) (negates : Bool) (v : ℕ) (new : ℤ) → v < length labels
-    → ((k : ℕ) → k < v → label_in labels k ≡ signed negates (label_in old k))
-    → new ≡ signed negates (label_in old v) → (k : ℕ) → k < v + 1
-    → label_in (set labels v new) k ≡ signed negates (label_in old k)
+    → ((k : ℕ) → k < v → label_in labels k ≡ negated_if negates (label_in old k))
+    → new ≡ negated_if negates (label_in old v) → (k : ℕ) → k < v + 1
+    → label_in (set labels v new) k ≡ negated_if negates (label_in old k)
 sign_next labels old negates v new places before is k below = elim (cases_eq k v) [
   | inl same ↦ ap (label_in (set labels v new)) same ∙ get_or-set_same labels v new (pos 0) places ∙ is
-      ∙ ap (λ (z : ℕ). signed negates (label_in old z)) (sym same)
+      ∙ ap (λ (z : ℕ). negated_if negates (label_in old z)) (sym same)
   | inr other ↦ get_or-set_other labels v k new (pos 0) other ∙ before k (omega (arith, below, other))
 ]
 
@@ -155,9 +155,9 @@ module _ (nodes : ℕ) (arc : ℕ → ℕ → Option ℤ) (end : ℕ) (cap : Opt
   read_negative cap_is listed path.None read =
       (kept_none nodes arc end cap label cell waits between keeps stopped (pos 0) inside cap_is read.0, read.1)
   read_negative cap_is listed (path.Cycle cost count) read = record {
-    rest = trail cell (cell end).round end;
+    rest = trail cell (cell end).inner_nodes end;
     nodes_are = read.2;
-    counted = omega (arith, read.3, ap length read.2, length-trail cell (cell end).round end);
+    counted = omega (arith, read.3, ap length read.2, length-trail cell (cell end).inner_nodes end);
     negative = read.1 (pos 0) cap_is;
     least = kept_cycle nodes arc end cap label cell waits between keeps stopped cost inside read.0 read.1;
   }
@@ -167,9 +167,9 @@ module _ (nodes : ℕ) (arc : ℕ → ℕ → Option ℤ) (end : ℕ) (cap : Opt
   read_least uncapped listed path.None read =
       (kept_unreached nodes arc end cap label cell waits between keeps stopped inside uncapped read.0, read.1)
   read_least uncapped listed (path.Cycle cost count) read = record {
-    rest = trail cell (cell end).round end;
+    rest = trail cell (cell end).inner_nodes end;
     nodes_are = read.2;
-    counted = omega (arith, read.3, ap length read.2, length-trail cell (cell end).round end);
+    counted = omega (arith, read.3, ap length read.2, length-trail cell (cell end).inner_nodes end);
     least = kept_cycle nodes arc end cap label cell waits between keeps stopped cost inside read.0 read.1;
   }
 
@@ -300,7 +300,7 @@ pub unwrap_near : (o : Option ℤ) (limit : ℕ) → ForSome o (λ p. IsAtMost p
 unwrap_near None limit near = record { low = omega (arith, ints); high = omega (arith, ints) }
 unwrap_near (Some p) limit near = near p refl
 
-pub signed_near : (negates : Bool) (z : ℤ) (limit : ℕ) → IsAtMost z limit → IsAtMost (signed negates z) limit
+pub signed_near : (negates : Bool) (z : ℤ) (limit : ℕ) → IsAtMost z limit → IsAtMost (negated_if negates z) limit
 signed_near true z limit near = record { low = omega (arith, ints, near.high); high = omega (arith, ints, near.low) }
 signed_near false z limit near = near
 

@@ -30,14 +30,14 @@ pub begun : (nodes : ℕ) (arc : ℕ → ℕ → Option ℤ) (end : ℕ) (label 
     → AreBetweenNodes nodes arc → waits end ≡ false
     → ((v u : ℕ) (cost : ℤ) → v ≢ end → u ≢ end → arc v u ≡ Some cost → waits v ≡ true)
     → ((v u : ℕ) (cost last : ℤ) → u ≢ end → arc v u ≡ Some cost → arc u end ≡ Some last → waits u ≡ true)
-    → ((v : ℕ) → v < nodes → cell v ≡ record { cost = arc v end; round = 0; next = end })
+    → ((v : ℕ) → v < nodes → cell v ≡ record { cost = arc v end; inner_nodes = 0; next = end })
     → IsUnderWay nodes arc end label cell waits 0
 begun nodes arc end label cell waits between shut begins passes made = record {
   shut = shut;
   first = λ v cost inside is. record {
     least = cost;
     is = cost_is v inside ∙ is;
-    before = (omega (arith, ints), λ back. omega (arith, round_is v inside));
+    before = (omega (arith, ints), λ back. omega (arith, inner_nodes_is v inside));
   };
   over = λ v u cost w off u_shut is u_is.
       absurd (false≢true (sym u_shut ∙ passes v u cost w off is (sym (cost_is u (between v u cost is).1) ∙ u_is)));
@@ -47,25 +47,25 @@ begun nodes arc end label cell waits between shut begins passes made = record {
     | inl same ↦ (cost, cost_is v (between v u cost is).0 ∙ subst (λ (z : ℕ). arc v z ≡ Some cost) same is)
     | inr other ↦ absurd (false≢true (sym v_shut ∙ begins v u cost off other is))
   ];
-  leads = λ v inside. subst (λ (k : ℕ). walk_cost arc v (trail cell k v) end ≡ (cell v).cost) (sym (round_is v inside))
+  leads = λ v inside. subst (λ (k : ℕ). walk_cost arc v (trail cell k v) end ≡ (cell v).cost) (sym (inner_nodes_is v inside))
       (sym (cost_is v inside));
   passes = λ v inside. subst (λ (k : ℕ). All (λ x. (x < nodes) × (x ≢ end)
-      × (waits x ≡ false)) (trail cell k v)) (sym (round_is v inside)) (All-nil (λ x. (x < nodes) × (x ≢ end)
+      × (waits x ≡ false)) (trail cell k v)) (sym (inner_nodes_is v inside)) (All-nil (λ x. (x < nodes) × (x ≢ end)
       × (waits x ≡ false)));
-  none = λ v inside _. round_is v inside;
-  few = λ v inside. omega (arith, round_is v inside);
+  none = λ v inside _. inner_nodes_is v inside;
+  few = λ v inside. omega (arith, inner_nodes_is v inside);
 }
   where
     cost_is : (v : ℕ) → v < nodes → (cell v).cost ≡ arc v end
     cost_is v inside = ap (λ (own : Cell). own.cost) (made v inside)
 
-    round_is : (v : ℕ) → v < nodes → (cell v).round ≡ 0
-    round_is v inside = ap (λ (own : Cell). own.round) (made v inside)
+    inner_nodes_is : (v : ℕ) → v < nodes → (cell v).inner_nodes ≡ 0
+    inner_nodes_is v inside = ap (λ (own : Cell). own.inner_nodes) (made v inside)
 
 module _ (nodes : ℕ) (arc : ℕ → ℕ → Option ℤ) (end : ℕ) (label : ℕ
     → ℤ) (between : AreBetweenNodes nodes arc) (keeps : KeepsArcsOff arc end label)
-    (cell new : ℕ → Cell) (waits now : ℕ → Bool) (settled u : ℕ) (key : ℤ) (round : ℕ)
-    (known : IsUnderWay nodes arc end label cell waits settled) (chosen : ComesFirst nodes label cell waits u key round)
+    (cell new : ℕ → Cell) (waits now : ℕ → Bool) (settled u : ℕ) (key : ℤ) (inner_nodes : ℕ)
+    (known : IsUnderWay nodes arc end label cell waits settled) (chosen : ComesFirst nodes label cell waits u key inner_nodes)
     (closed : now u ≡ false) (others : (v : ℕ) → v ≢ u → now v ≡ waits v)
     (after : (v : ℕ) → v < nodes → AfterOffer arc end u (cell u) (now v) v (cell v) (new v)) where
   off_end : u ≢ end
@@ -91,19 +91,19 @@ module _ (nodes : ℕ) (arc : ℕ → ℕ → Option ℤ) (end : ℕ) (label : �
   own_same = unchanged u chosen.inside closed off_end
 
   -- a cell is only bettered
-  bettered : (v : ℕ) → v < nodes → (x : ℤ) → (cell v).cost ≡ Some x → HasBy (new v) x (cell v).round
+  bettered : (v : ℕ) → v < nodes → (x : ℤ) → (cell v).cost ≡ Some x → HasBy (new v) x (cell v).inner_nodes
   bettered v inside x is = elim (cases_Bool (now v)) [
     | inl waiting ↦ ((after v inside).0 (inl waiting)).by_own x is
     | inr shut ↦ elim (cases_eq v end) [
       | inl same ↦ ((after v inside).0 (inr same)).by_own x is
-      | inr off ↦ subst (λ (own : Cell). HasBy own x (cell v).round) (sym (unchanged v inside shut off))
+      | inr off ↦ subst (λ (own : Cell). HasBy own x (cell v).inner_nodes) (sym (unchanged v inside shut off))
           (has_by_own (cell v) x is)
     ]
   ]
 
   has_still : (v : ℕ) → v < nodes → (cost : ℤ) (inner : ℕ) → HasBy (cell v) cost inner → HasBy (new v) cost inner
   has_still v inside cost inner has =
-      has_by-more (new v) has.least (cell v).round cost inner (bettered v inside has.least has.is) has.before
+      has_by-more (new v) has.least (cell v).inner_nodes cost inner (bettered v inside has.least has.is) has.before
 
   -- a cell stays, or goes on over u
   stepped : (v : ℕ) → v < nodes → (new v ≡ cell v) ⊎ GoesOver (arc v u) (cell u) u (new v)
@@ -117,26 +117,26 @@ module _ (nodes : ℕ) (arc : ℕ → ℕ → Option ℤ) (end : ℕ) (label : �
 
   -- no settled node is after u
   before_own : (v : ℕ) (w : ℤ) → v < nodes → v ≢ end → LeadsOff arc end v → now v ≡ false → (cell v).cost ≡ Some w
-      → IsNotAfter (w +ℤ label v) (cell v).round (chosen.cost +ℤ label u) (cell u).round
+      → IsNotAfter (w +ℤ label v) (cell v).inner_nodes (chosen.cost +ℤ label u) (cell u).inner_nodes
   before_own v w inside off leads shut is = elim (cases_eq v u) [
     | inl same ↦
         let e : w ≡ chosen.cost =
         same_cost (cell u).cost w chosen.cost (subst (λ (z : ℕ). (cell z).cost ≡ Some w) same is) chosen.cost_is in
-        subst (λ (z : ℕ). IsNotAfter (w +ℤ label z) (cell z).round (chosen.cost +ℤ label u) (cell u).round) (sym same)
-        (subst (λ (z : ℤ). IsNotAfter (w +ℤ label u) (cell u).round (z +ℤ label u) (cell u).round) e
-        (not_after_itself (w +ℤ label u) (cell u).round))
+        subst (λ (z : ℕ). IsNotAfter (w +ℤ label z) (cell z).inner_nodes (chosen.cost +ℤ label u) (cell u).inner_nodes) (sym same)
+        (subst (λ (z : ℤ). IsNotAfter (w +ℤ label u) (cell u).inner_nodes (z +ℤ label u) (cell u).inner_nodes) e
+        (not_after_itself (w +ℤ label u) (cell u).inner_nodes))
     | inr other ↦
         known.order v u w chosen.cost inside chosen.inside off leads (sym (others v other) ∙ shut) chosen.waiting is
         chosen.cost_is
   ]
 
   -- a settled node isn't after going on over u
-  over_own : (v : ℕ) (cost : ℤ) → arc v u ≡ Some cost → HasBy (new v) (cost +ℤ chosen.cost) ((cell u).round + 1)
+  over_own : (v : ℕ) (cost : ℤ) → arc v u ≡ Some cost → HasBy (new v) (cost +ℤ chosen.cost) ((cell u).inner_nodes + 1)
   over_own v cost is = elim (cases_Bool (now v)) [
     | inl waiting ↦ ((after v inside).0 (inl waiting)).by_offer (cost +ℤ chosen.cost) sum
     | inr shut ↦ elim (cases_eq v end) [
       | inl same ↦ ((after v inside).0 (inr same)).by_offer (cost +ℤ chosen.cost) sum
-      | inr off ↦ subst (λ (own : Cell). HasBy own (cost +ℤ chosen.cost) ((cell u).round + 1))
+      | inr off ↦ subst (λ (own : Cell). HasBy own (cost +ℤ chosen.cost) ((cell u).inner_nodes + 1))
           (sym (unchanged v inside shut off)) (settled_by shut off)
     ]
   ]
@@ -153,7 +153,7 @@ module _ (nodes : ℕ) (arc : ℕ → ℕ → Option ℤ) (end : ℕ) (label : �
         | inr other ↦ known.reached v u cost off (sym (others v other) ∙ shut) is
       ]
 
-      settled_by : now v ≡ false → v ≢ end → HasBy (cell v) (cost +ℤ chosen.cost) ((cell u).round + 1)
+      settled_by : now v ≡ false → v ≢ end → HasBy (cell v) (cost +ℤ chosen.cost) ((cell u).inner_nodes + 1)
       settled_by shut off =
           let own = has_cost shut off in
           let ahead = before_own v own.0 inside off (u, cost, off_end, is) shut own.1 in
@@ -164,20 +164,20 @@ module _ (nodes : ℕ) (arc : ℕ → ℕ → Option ℤ) (end : ℕ) (label : �
             is = own.1;
             before = (
               omega (arith, ints, ahead_cost, kept),
-              λ back. let less : (cell v).round ≤ (cell u).round = ahead.1 (omega (arith, ints, kept, back)) in
+              λ back. let less : (cell v).inner_nodes ≤ (cell u).inner_nodes = ahead.1 (omega (arith, ints, kept, back)) in
                   omega (arith, less),
             );
           }
 
   -- u isn't after a node that waits still
   before_new : (v : ℕ) (x : ℤ) → v < nodes → now v ≡ true → (new v).cost ≡ Some x
-      → IsNotAfter (chosen.cost +ℤ label u) (cell u).round (x +ℤ label v) (new v).round
+      → IsNotAfter (chosen.cost +ℤ label u) (cell u).inner_nodes (x +ℤ label v) (new v).inner_nodes
   before_new v x inside waiting is = elim (stepped v inside) [
     | inl same ↦
         let was : (cell v).cost ≡ Some x = ap (λ (own : Cell). own.cost) (sym same) ∙ is in
-        subst (λ (own : Cell). IsNotAfter (chosen.cost +ℤ label u) (cell u).round (x +ℤ label v) own.round) (sym same)
-        (subst (λ (z : ℤ). IsNotAfter z (cell u).round (x +ℤ label v) (cell v).round) chosen.key_is
-        (subst (λ (k : ℕ). IsNotAfter key k (x +ℤ label v) (cell v).round) chosen.round_is
+        subst (λ (own : Cell). IsNotAfter (chosen.cost +ℤ label u) (cell u).inner_nodes (x +ℤ label v) own.inner_nodes) (sym same)
+        (subst (λ (z : ℤ). IsNotAfter z (cell u).inner_nodes (x +ℤ label v) (cell v).inner_nodes) chosen.key_is
+        (subst (λ (k : ℕ). IsNotAfter key k (x +ℤ label v) (cell v).inner_nodes) chosen.inner_nodes_is
         (chosen.first v x inside (waited v waiting) was)))
     | inr goes ↦
         let two = parts (arc v u) (cell u).cost goes.cost goes.sum in
@@ -185,7 +185,7 @@ module _ (nodes : ℕ) (arc : ℕ → ℕ → Option ℤ) (end : ℕ) (label : �
         let same : two.second ≡ chosen.cost =
         same_cost (cell u).cost two.second chosen.cost two.second_is chosen.cost_is in
         let whole : goes.cost ≡ x = same_cost (new v).cost goes.cost x goes.cost_is is in
-        (omega (arith, ints, kept, same, whole, two.sum_is), λ back. omega (arith, goes.round_is))
+        (omega (arith, ints, kept, same, whole, two.sum_is), λ back. omega (arith, goes.inner_nodes_is))
   ]
 
   pub known_next : IsUnderWay nodes arc end label new now (settled + 1)
@@ -195,9 +195,9 @@ module _ (nodes : ℕ) (arc : ℕ → ℕ → Option ℤ) (end : ℕ) (label : �
     over = over;
     order = λ v x w y inside node off leads v_shut x_waits v_is x_is.
         let same = unchanged v inside v_shut off in
-        subst (λ (own : Cell). IsNotAfter (w +ℤ label v) own.round (y +ℤ label x) (new x).round) (sym same)
-        (not_after-trans (w +ℤ label v) (cell v).round (chosen.cost +ℤ label u) (cell u).round (y +ℤ label x)
-        (new x).round
+        subst (λ (own : Cell). IsNotAfter (w +ℤ label v) own.inner_nodes (y +ℤ label x) (new x).inner_nodes) (sym same)
+        (not_after-trans (w +ℤ label v) (cell v).inner_nodes (chosen.cost +ℤ label u) (cell u).inner_nodes (y +ℤ label x)
+        (new x).inner_nodes
         (before_own v w inside off leads v_shut (ap (λ (own : Cell). own.cost) (sym same) ∙ v_is))
         (before_new x y node x_waits x_is));
     reached = reached;
@@ -205,32 +205,32 @@ module _ (nodes : ℕ) (arc : ℕ → ℕ → Option ℤ) (end : ℕ) (label : �
     passes = λ v inside. (led v inside).1;
     none = λ v inside is. elim (stepped v inside) [
       | inl same ↦
-          ap (λ (own : Cell). own.round) same ∙ known.none v inside (ap (λ (own : Cell). own.cost) (sym same) ∙ is)
+          ap (λ (own : Cell). own.inner_nodes) same ∙ known.none v inside (ap (λ (own : Cell). own.cost) (sym same) ∙ is)
       | inr goes ↦ absurd (none-some goes.cost (sym is ∙ goes.cost_is))
     ];
     few = λ v inside. elim (stepped v inside) [
-      | inl same ↦ let e : (new v).round ≡ (cell v).round = ap (λ (own : Cell). own.round) same in
+      | inl same ↦ let e : (new v).inner_nodes ≡ (cell v).inner_nodes = ap (λ (own : Cell). own.inner_nodes) same in
           omega (arith, e, known.few v inside)
-      | inr goes ↦ omega (arith, goes.round_is, known.few u chosen.inside)
+      | inr goes ↦ omega (arith, goes.inner_nodes_is, known.few u chosen.inside)
     ];
   }
     where
       over : (v x : ℕ) (cost w : ℤ) → x ≢ end → now x ≡ false → arc v x ≡ Some cost → (new x).cost ≡ Some w
-          → HasBy (new v) (cost +ℤ w) ((new x).round + 1)
+          → HasBy (new v) (cost +ℤ w) ((new x).inner_nodes + 1)
       over v x cost w off shut is x_is =
           let two = between v x cost is in
           let same = unchanged x two.1 shut off in
           let was : (cell x).cost ≡ Some w = ap (λ (own : Cell). own.cost) (sym same) ∙ x_is in
-          subst (λ (own : Cell). HasBy (new v) (cost +ℤ w) (own.round + 1)) (sym same) (elim (cases_eq x u) [
+          subst (λ (own : Cell). HasBy (new v) (cost +ℤ w) (own.inner_nodes + 1)) (sym same) (elim (cases_eq x u) [
             | inl here ↦
                 let e : chosen.cost ≡ w =
                 same_cost (cell u).cost chosen.cost w chosen.cost_is
                 (subst (λ (z : ℕ). (cell z).cost ≡ Some w) here was) in
-                subst (λ (z : ℕ). HasBy (new v) (cost +ℤ w) ((cell z).round + 1)) (sym here)
-                (subst (λ (z : ℤ). HasBy (new v) (cost +ℤ z) ((cell u).round + 1)) e
+                subst (λ (z : ℕ). HasBy (new v) (cost +ℤ w) ((cell z).inner_nodes + 1)) (sym here)
+                (subst (λ (z : ℤ). HasBy (new v) (cost +ℤ z) ((cell u).inner_nodes + 1)) e
                 (over_own v cost (subst (λ (z : ℕ). arc v z ≡ Some cost) here is)))
             | inr other ↦
-                has_still v two.0 (cost +ℤ w) ((cell x).round + 1) (known.over v x cost w off (sym (others x other)
+                has_still v two.0 (cost +ℤ w) ((cell x).inner_nodes + 1) (known.over v x cost w off (sym (others x other)
                 ∙ shut) is was)
           ])
 
@@ -248,37 +248,37 @@ module _ (nodes : ℕ) (arc : ℕ → ℕ → Option ℤ) (end : ℕ) (label : �
                 (was.0, ap (λ (own : Cell). own.cost) same ∙ was.1)
           ]
 
-      old_trail : (v : ℕ) → v < nodes → new v ≡ cell v → trail new (cell v).round v ≡ trail cell (cell v).round v
-      old_trail v inside same = trail_same cell new (cell v).round v same
+      old_trail : (v : ℕ) → v < nodes → new v ≡ cell v → trail new (cell v).inner_nodes v ≡ trail cell (cell v).inner_nodes v
+      old_trail v inside same = trail_same cell new (cell v).inner_nodes v same
           (All-weaker (λ x. (x < nodes) × (x ≢ end) × (waits x ≡ false)) (λ x. new x ≡ cell x)
-          (λ x h. unchanged x h.0 (still_shut x h.2) h.1) (trail cell (cell v).round v) (known.passes v inside))
+          (λ x h. unchanged x h.0 (still_shut x h.2) h.1) (trail cell (cell v).inner_nodes v) (known.passes v inside))
 
       old_passes : (v : ℕ) → v < nodes → All (λ x. (x < nodes) × (x ≢ end)
-          × (now x ≡ false)) (trail cell (cell v).round v)
+          × (now x ≡ false)) (trail cell (cell v).inner_nodes v)
       old_passes v inside = All-weaker (λ x. (x < nodes) × (x ≢ end) × (waits x ≡ false)) (λ x. (x < nodes) × (x ≢ end)
           × (now x ≡ false))
-          (λ x h. (h.0, h.1, still_shut x h.2)) (trail cell (cell v).round v) (known.passes v inside)
+          (λ x h. (h.0, h.1, still_shut x h.2)) (trail cell (cell v).inner_nodes v) (known.passes v inside)
 
-      led : (v : ℕ) → v < nodes → (walk_cost arc v (trail new (new v).round v) end ≡ (new v).cost)
-          × All (λ x. (x < nodes) × (x ≢ end) × (now x ≡ false)) (trail new (new v).round v)
+      led : (v : ℕ) → v < nodes → (walk_cost arc v (trail new (new v).inner_nodes v) end ≡ (new v).cost)
+          × All (λ x. (x < nodes) × (x ≢ end) × (now x ≡ false)) (trail new (new v).inner_nodes v)
       led v inside = elim (stepped v inside) [
         | inl same ↦
-            let e : trail new (new v).round v ≡ trail cell (cell v).round v =
-            ap (λ (own : Cell). trail new own.round v) same ∙ old_trail v inside same in (
+            let e : trail new (new v).inner_nodes v ≡ trail cell (cell v).inner_nodes v =
+            ap (λ (own : Cell). trail new own.inner_nodes v) same ∙ old_trail v inside same in (
               ap (λ (us : List ℕ). walk_cost arc v us end) e ∙ known.leads v inside
                   ∙ ap (λ (own : Cell). own.cost) (sym same),
               subst (All (λ x. (x < nodes) × (x ≢ end) × (now x ≡ false))) (sym e) (old_passes v inside),
             )
         | inr goes ↦
-            let at : (new v).round ≡ suc (cell u).round = omega (arith, goes.round_is) in
-            let e : trail new (new v).round v ≡ u ∷ trail cell (cell u).round u =
-            ap (λ (k : ℕ). trail new k v) at ∙ ap (λ (x : ℕ). x ∷ trail new (cell u).round x) goes.next_is
+            let at : (new v).inner_nodes ≡ suc (cell u).inner_nodes = omega (arith, goes.inner_nodes_is) in
+            let e : trail new (new v).inner_nodes v ≡ u ∷ trail cell (cell u).inner_nodes u =
+            ap (λ (k : ℕ). trail new k v) at ∙ ap (λ (x : ℕ). x ∷ trail new (cell u).inner_nodes x) goes.next_is
             ∙ ap (λ (us : List ℕ). u ∷ us) (old_trail u chosen.inside own_same) in (
               ap (λ (us : List ℕ). walk_cost arc v us end) e
                   ∙ ap (λ (z : Option ℤ). both (arc v u) z) (known.leads u chosen.inside)
                   ∙ goes.sum ∙ sym goes.cost_is,
               subst (All (λ x. (x < nodes) × (x ≢ end) × (now x ≡ false))) (sym e)
-                  (All-cons (λ x. (x < nodes) × (x ≢ end) × (now x ≡ false)) u (trail cell (cell u).round u)
+                  (All-cons (λ x. (x < nodes) × (x ≢ end) × (now x ≡ false)) u (trail cell (cell u).inner_nodes u)
                   (chosen.inside, off_end, closed) (old_passes u chosen.inside)),
             )
       ]

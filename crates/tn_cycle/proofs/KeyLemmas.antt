@@ -25,11 +25,11 @@ has_by-more own a m b n has after = record {
   least = has.least;
   is = has.is;
   before =
-      not_after-trans has.least own.round a m b n has.before after;
+      not_after-trans has.least own.inner_nodes a m b n has.before after;
 }
 
-pub has_by_own : (own : Cell) (cost : ℤ) → own.cost ≡ Some cost → HasBy own cost own.round
-has_by_own own cost is = record { least = cost; is = is; before = not_after_itself cost own.round }
+pub has_by_own : (own : Cell) (cost : ℤ) → own.cost ≡ Some cost → HasBy own cost own.inner_nodes
+has_by_own own cost is = record { least = cost; is = is; before = not_after_itself cost own.inner_nodes }
 
 -- the same walk's cost, found twice
 pub same_cost : (o : Option ℤ) (a b : ℤ) → o ≡ Some a → o ≡ Some b → a ≡ b
@@ -45,12 +45,12 @@ past-more (seek.Cycle cap) own a m b n (inr capped) after =
 
 -- where the first of the waiting nodes is past, all are
 pub past_all : (nodes : ℕ) (base : ℤ) (sought : Sought) (label : ℕ → ℤ) (cell : ℕ → Cell) (own : Cell) (waits : ℕ
-    → Bool) (u : ℕ) (key : ℤ) (round : ℕ)
-    → ComesFirst nodes label cell waits u key round → IsPast sought own (key -ℤ base) round
+    → Bool) (u : ℕ) (key : ℤ) (inner_nodes : ℕ)
+    → ComesFirst nodes label cell waits u key inner_nodes → IsPast sought own (key -ℤ base) inner_nodes
     → AllArePast nodes base sought label cell own waits
-past_all nodes base sought label cell own waits u key round first past v w inside waiting is =
+past_all nodes base sought label cell own waits u key inner_nodes first past v w inside waiting is =
     let after = first.first v w inside waiting is in
-    past-more sought own (key -ℤ base) round ((w +ℤ label v) -ℤ base) (cell v).round past (
+    past-more sought own (key -ℤ base) inner_nodes ((w +ℤ label v) -ℤ base) (cell v).inner_nodes past (
       omega (arith, ints, after.0),
       λ back. after.1 (omega (arith, ints, back)),
     )

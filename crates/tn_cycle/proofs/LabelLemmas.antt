@@ -17,7 +17,7 @@ use Rattle.tn_cycle.specs.Widths.{most_graph_nodes, most_walk_cost}
 use Rattle.tn_cycle.specs.Graphs.{with_sink}
 use Rattle.tn_cycle.specs.GraphLemmas.{small-with_sink, some_if, between-with_sink}
 use Rattle.tn_cycle.specs.Searched.{IsSettled}
-use Rattle.tn_cycle.specs.Answers.{AreLabels, IsLowest, label_in}
+use Rattle.tn_cycle.specs.Answers.{AreLabels, IsLowestCost, label_in}
 use Rattle.tn_cycle.proofs.OrderLemmas.{parts}
 use Rattle.tn_cycle.proofs.WalkLemmas.{AreApart, few_apart, avoids-cons, avoids-head, avoids-tail}
 use Rattle.tn_cycle.proofs.CellLemmas.{led_room}
@@ -99,14 +99,14 @@ module _ (nodes : ℕ) (arc : ℕ → ℕ → Option ℤ) (cell : ℕ → Cell) 
       let first : u < nodes + 1 = omega (arith, two.0) in
       let passes : v ≢ nodes = λ e. omega (arith, e, two.1) in
       let start : u ≢ nodes = λ e. omega (arith, e, two.0) in
-      let least = found.least u (v ∷ trail cell (cell v).round v) first
-      (avoids-cons nodes v (trail cell (cell v).round v) passes (found.avoids v second)) in
-      let walk : walk_cost (with_sink nodes arc) u (v ∷ trail cell (cell v).round v) nodes ≡ Some (cost +ℤ b) =
-      ap (λ (z : Option ℤ). both z (walk_cost (with_sink nodes arc) v (trail cell (cell v).round v) nodes))
+      let least = found.least u (v ∷ trail cell (cell v).inner_nodes v) first
+      (avoids-cons nodes v (trail cell (cell v).inner_nodes v) passes (found.avoids v second)) in
+      let walk : walk_cost (with_sink nodes arc) u (v ∷ trail cell (cell v).inner_nodes v) nodes ≡ Some (cost +ℤ b) =
+      ap (λ (z : Option ℤ). both z (walk_cost (with_sink nodes arc) v (trail cell (cell v).inner_nodes v) nodes))
       (off_sink nodes arc between u v start passes ∙ is)
       ∙ ap (λ (z : Option ℤ). both (Some cost) z) (found.leads v second ∙ b_is) in
       let known : IsUpTo (Some a) (Some (cost +ℤ b)) = subst (IsUpTo (Some a)) walk
-      (subst (λ (z : Option ℤ). IsUpTo z (walk_cost (with_sink nodes arc) u (v ∷ trail cell (cell v).round v) nodes))
+      (subst (λ (z : Option ℤ). IsUpTo z (walk_cost (with_sink nodes arc) u (v ∷ trail cell (cell v).inner_nodes v) nodes))
       a_is least) in
       known
 
@@ -134,26 +134,26 @@ module _ (nodes : ℕ) (arc : ℕ → ℕ → Option ℤ) (cell : ℕ → Cell) 
       let off = none_off_sink nodes arc between none in
       let node : v < nodes + 1 = omega (arith, inside) in
       let other : v ≢ nodes = λ e. omega (arith, e, inside) in
-      let apart : AreApart (v ∷ trail cell (cell v).round v) = (
+      let apart : AreApart (v ∷ trail cell (cell v).inner_nodes v) = (
         led_once (nodes + 1) (with_sink nodes arc) nodes cell wide off found v here.0 node other here.1,
         led_apart (nodes + 1) (with_sink nodes arc) nodes cell wide off found v here.0 node here.1,
       ) in
-      let all : All (λ u. u < nodes + 1) (v ∷ trail cell (cell v).round v) =
-      All-cons (λ u. u < nodes + 1) v (trail cell (cell v).round v) node
+      let all : All (λ u. u < nodes + 1) (v ∷ trail cell (cell v).inner_nodes v) =
+      All-cons (λ u. u < nodes + 1) v (trail cell (cell v).inner_nodes v) node
       (led_inside (nodes + 1) (with_sink nodes arc) nodes cell wide off found v node) in
-      let few : length (v ∷ trail cell (cell v).round v) < nodes + 1 =
-      few_apart (nodes + 1) nodes (v ∷ trail cell (cell v).round v) (omega arith) all
-      (avoids-cons nodes v (trail cell (cell v).round v) other (found.avoids v node)) apart in
-      let low : neg_ℤ (pos (length (trail cell (cell v).round v) * limit)) ≤ℤ here.0 =
-      sunk_low nodes arc limit small v (trail cell (cell v).round v) here.0 (found.avoids v node)
+      let few : length (v ∷ trail cell (cell v).inner_nodes v) < nodes + 1 =
+      few_apart (nodes + 1) nodes (v ∷ trail cell (cell v).inner_nodes v) (omega arith) all
+      (avoids-cons nodes v (trail cell (cell v).inner_nodes v) other (found.avoids v node)) apart in
+      let low : neg_ℤ (pos (length (trail cell (cell v).inner_nodes v) * limit)) ≤ℤ here.0 =
+      sunk_low nodes arc limit small v (trail cell (cell v).inner_nodes v) here.0 (found.avoids v node)
       (led_walk (nodes + 1) (with_sink nodes arc) nodes cell wide off found v here.0 node here.1) in
-      let more : length (trail cell (cell v).round v) * limit ≤ (nodes - 1) * limit =
+      let more : length (trail cell (cell v).inner_nodes v) * limit ≤ (nodes - 1) * limit =
       mul-le-mul_right limit (omega (arith, few)) in
       let is : unwrap_or (cell v).cost (pos 0) ≡ here.0 = ap (λ (z : Option ℤ). unwrap_or z (pos 0)) here.1 in
       omega (arith, ints, low, more, is)
 
   -- the labels answer
-  pub are_labels : (lowest : ℤ) (labels : List ℤ) → IsLowest nodes cell lowest → length labels ≡ nodes
+  pub are_labels : (lowest : ℤ) (labels : List ℤ) → IsLowestCost nodes cell lowest → length labels ≡ nodes
       → ((v : ℕ) → v < nodes → label_in labels v ≡ lowest -ℤ unwrap_or (cell v).cost (pos 0))
       → AreLabels nodes arc labels
   are_labels lowest labels least sized are = record {
@@ -176,7 +176,7 @@ module _ (nodes : ℕ) (arc : ℕ → ℕ → Option ℤ) (cell : ℕ → Cell) 
       none = none_negative_kept arc (label_in labels) keeps
 
   -- the lowest cost is far from the limits of its type
-  pub lowest_small : (lowest : ℤ) → HasRoom (nodes + 1) cell → IsLowest nodes cell lowest
+  pub lowest_small : (lowest : ℤ) → HasRoom (nodes + 1) cell → IsLowestCost nodes cell lowest
       → IsAtMost lowest most_walk_cost
   lowest_small lowest room least = record {
     low = least.greatest (neg_ℤ (pos most_walk_cost)) (omega (arith, ints)) each;

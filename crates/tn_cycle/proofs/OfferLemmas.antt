@@ -13,7 +13,7 @@ use Rattle.tn_cycle.proofs.ListLemmas.{put_on, ready, waiting_same}
 
 -- the cell of the arc to the end
 abbrev pub begun_cell : ℕ → Option ℤ → Cell
-begun_cell end cost = record { cost = cost; round = 0; next = end }
+begun_cell end cost = record { cost = cost; inner_nodes = 0; next = end }
 
 -- cells of the arcs from the first predecessors to the end, and cells of no walk
 module _ (end : ℕ) (arc : ℕ → ℕ → Option ℤ) (at : ℕ → ℕ) where

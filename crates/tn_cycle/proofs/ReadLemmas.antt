@@ -45,11 +45,11 @@ front-written written rest count places within inside =
     take-take count places (written ++ rest) within ∙ take-append-le count written rest inside
 
 -- the listed walk without its end
-pub way-front : (end : ℕ) (cell : ℕ → Cell) (v : ℕ) (path : List ℕ) (count : ℕ) → count ≡ (cell v).round + 1
+pub way-front : (end : ℕ) (cell : ℕ → Cell) (v : ℕ) (path : List ℕ) (count : ℕ) → count ≡ (cell v).inner_nodes + 1
     → take (count + 1) path ≡ way end cell v
-    → take count path ≡ v ∷ trail cell (cell v).round v
+    → take count path ≡ v ∷ trail cell (cell v).inner_nodes v
 way-front end cell v path count counted whole =
-    let size : length (v ∷ trail cell (cell v).round v) ≡ count =
-    omega (arith, length-trail cell (cell v).round v, counted) in
+    let size : length (v ∷ trail cell (cell v).inner_nodes v) ≡ count =
+    omega (arith, length-trail cell (cell v).inner_nodes v, counted) in
     let e = take-take count (count + 1) path (omega arith) in
-    sym e ∙ ap (take count) whole ∙ take_at (v ∷ trail cell (cell v).round v) (end ∷ []) count size
+    sym e ∙ ap (take count) whole ∙ take_at (v ∷ trail cell (cell v).inner_nodes v) (end ∷ []) count size

@@ -58,19 +58,19 @@ module _ (nodes : ℕ) (arc : ℕ → ℕ → Option ℤ) (end : ℕ) (sought : 
         | inl has ↦ elim (cases_Bool (waits u)) [
           | inl waiting ↦
               let ahead : has.least ≤ℤ two.second = has.before.0 in
-              inr (past-more sought (cell end) ((has.least +ℤ label u) -ℤ label end) (cell u).round ((cost +ℤ label v)
+              inr (past-more sought (cell end) ((has.least +ℤ label u) -ℤ label end) (cell u).inner_nodes ((cost +ℤ label v)
               -ℤ label end) (suc (length us))
               (stopped.past u has.least node waiting has.is) (
                 omega (arith, ints, kept, two.sum_is, ahead),
-                λ back. let fewer : (cell u).round ≤ length us =
+                λ back. let fewer : (cell u).inner_nodes ≤ length us =
                     has.before.1 (omega (arith, ints, back, kept, two.sum_is)) in omega (arith, fewer),
               ))
           | inr shut ↦
               let ahead : has.least ≤ℤ two.second = has.before.0 in
-              inl (has_by-more (cell v) (two.first +ℤ has.least) ((cell u).round + 1) cost (suc (length us))
+              inl (has_by-more (cell v) (two.first +ℤ has.least) ((cell u).inner_nodes + 1) cost (suc (length us))
               (stopped.known.over v u two.first has.least off shut two.first_is has.is) (
                 omega (arith, ints, two.sum_is, ahead),
-                λ back. let fewer : (cell u).round ≤ length us =
+                λ back. let fewer : (cell u).inner_nodes ≤ length us =
                     has.before.1 (omega (arith, ints, back, two.sum_is)) in omega (arith, fewer),
               ))
         ]
@@ -80,12 +80,12 @@ module _ (nodes : ℕ) (arc : ℕ → ℕ → Option ℤ) (end : ℕ) (sought : 
   pub kept_small : (limit : ℕ) → AreSmall arc limit → (v : ℕ) (w : ℤ) → v < nodes → (cell v).cost ≡ Some w
       → IsAtMost w (nodes * limit)
   kept_small limit small v w inside is =
-      let whole = walk_small arc limit small v (trail cell (cell v).round v) end w (stopped.known.leads v inside ∙ is)
+      let whole = walk_small arc limit small v (trail cell (cell v).inner_nodes v) end w (stopped.known.leads v inside ∙ is)
       in
-      let size : length (trail cell (cell v).round v) ≡ (cell v).round = length-trail cell (cell v).round v in
-      let short : length (trail cell (cell v).round v) + 1 ≤ nodes =
+      let size : length (trail cell (cell v).inner_nodes v) ≡ (cell v).inner_nodes = length-trail cell (cell v).inner_nodes v in
+      let short : length (trail cell (cell v).inner_nodes v) + 1 ≤ nodes =
       omega (arith, size, stopped.known.few v inside, stopped.fewer) in
-      let more : (length (trail cell (cell v).round v) + 1) * limit ≤ nodes * limit = mul-le-mul_right limit short in
+      let more : (length (trail cell (cell v).inner_nodes v) + 1) * limit ≤ nodes * limit = mul-le-mul_right limit short in
       record { low = omega (arith, ints, whole.low, more); high = omega (arith, ints, whole.high, more) }
 
 module _ (nodes : ℕ) (arc : ℕ → ℕ → Option ℤ) (end : ℕ) (cap : Option ℤ) (label : ℕ → ℤ) (cell : ℕ → Cell) (waits : ℕ
@@ -102,37 +102,37 @@ module _ (nodes : ℕ) (arc : ℕ → ℕ → Option ℤ) (end : ℕ) (cap : Opt
         | inr past ↦ subst (λ (z : ℤ). IsPast (seek.Cycle cap) (cell end) z (length ws)) same past
       ]
 
-  along : end < nodes → Avoids end (trail cell (cell end).round end)
+  along : end < nodes → Avoids end (trail cell (cell end).inner_nodes end)
   along inside = All-weaker (λ x. (x < nodes) × (x ≢ end)
-      × (waits x ≡ false)) (λ x. x ≢ end) (λ x h. h.1) (trail cell (cell end).round end)
+      × (waits x ≡ false)) (λ x. x ≢ end) (λ x h. h.1) (trail cell (cell end).inner_nodes end)
       (stopped.known.passes end inside)
 
   -- no walk from the end with fewer arcs costs as little
   never_shorter : (cost : ℤ) → end < nodes → (cell end).cost ≡ Some cost → IsCounted cap cost
-      → IsShortened arc end end (trail cell (cell end).round end) cost → ⊥
+      → IsShortened arc end end (trail cell (cell end).inner_nodes end) cost → ⊥
   never_shorter cost inside is counts short = elim (end_walks inside short.nodes short.less short.avoids short.walk) [
     | inl has ↦
         let same : has.least ≡ cost = same_cost (cell end).cost has.least cost has.is is in
-        let fewer : (cell end).round ≤ length short.nodes = has.before.1 (omega (arith, ints, same, short.no_more)) in
-        omega (arith, fewer, short.fewer, length-trail cell (cell end).round end)
+        let fewer : (cell end).inner_nodes ≤ length short.nodes = has.before.1 (omega (arith, ints, same, short.no_more)) in
+        omega (arith, fewer, short.fewer, length-trail cell (cell end).inner_nodes end)
     | inr capped ↦
         let below : cost <ℤ capped.0 = counts capped.0 capped.1 in
         omega (arith, ints, below, capped.2, short.no_more)
   ]
 
   different : (cost : ℤ) → end < nodes → (cell end).cost ≡ Some cost → IsCounted cap cost
-      → AreDifferent (end ∷ trail cell (cell end).round end)
+      → AreDifferent (end ∷ trail cell (cell end).inner_nodes end)
   unfolding AreApart
   different cost inside is counts =
-      elim (apart_or_shortened arc end (none_off_kept arc end label keeps) end (trail cell (cell end).round end) cost
+      elim (apart_or_shortened arc end (none_off_kept arc end label keeps) end (trail cell (cell end).inner_nodes end) cost
       (along inside) (stopped.known.leads end inside ∙ is)) [
-        | inl apart ↦ different_from_apart (end ∷ trail cell (cell end).round end) (along inside, apart)
+        | inl apart ↦ different_from_apart (end ∷ trail cell (cell end).inner_nodes end) (along inside, apart)
         | inr short ↦ absurd (never_shorter cost inside is counts short)
       ]
 
   -- the end's own walk is a least cycle, where it counts
   pub kept_cycle : (cost : ℤ) → end < nodes → (cell end).cost ≡ Some cost → IsCounted cap cost
-      → IsLeastCycle arc end (trail cell (cell end).round end) cost
+      → IsLeastCycle arc end (trail cell (cell end).inner_nodes end) cost
   kept_cycle cost inside is counts = record {
     cycle = record { walk = stopped.known.leads end inside ∙ is; different = different cost inside is counts };
     least = λ vs other avoids walk. elim (end_walks inside vs other avoids walk) [
@@ -143,8 +143,8 @@ module _ (nodes : ℕ) (arc : ℕ → ℕ → Option ℤ) (end : ℕ) (cap : Opt
     shortest = λ ws avoids walk. elim (end_walks inside ws cost avoids walk) [
       | inl has ↦
           let same : has.least ≡ cost = same_cost (cell end).cost has.least cost has.is is in
-          let fewer : (cell end).round ≤ length ws = has.before.1 (omega (arith, ints, same)) in
-          omega (arith, fewer, length-trail cell (cell end).round end)
+          let fewer : (cell end).inner_nodes ≤ length ws = has.before.1 (omega (arith, ints, same)) in
+          omega (arith, fewer, length-trail cell (cell end).inner_nodes end)
       | inr capped ↦ let below : cost <ℤ capped.0 = counts capped.0 capped.1 in
           absurd (omega (arith, ints, below, capped.2))
     ];
@@ -214,7 +214,7 @@ module _ (nodes : ℕ) (arc : ℕ → ℕ → Option ℤ) (end : ℕ) (cap : Opt
       ]
 
       -- the limit, gone back over an arc
-      back : (u v : ℕ) (cost w : ℤ) → arc u v ≡ Some cost → HasBy (cell u) (cost +ℤ w) ((cell v).round + 1)
+      back : (u v : ℕ) (cost w : ℤ) → arc u v ≡ Some cost → HasBy (cell u) (cost +ℤ w) ((cell v).inner_nodes + 1)
           → ((label end +ℤ gap) -ℤ w) ≤ℤ (new u +ℤ cost)
       back u v cost w is has =
           let node : u < nodes = (between u v cost is).0 in
@@ -268,7 +268,7 @@ module _ (nodes : ℕ) (arc : ℕ → ℕ → Option ℤ) (end : ℕ) (label : �
     fewest = λ v ws inside avoids fewer. fewest v ws inside avoids fewer (walk_cost arc v ws end) refl;
     leads = stopped.known.leads;
     avoids = λ v inside. All-weaker (λ x. (x < nodes) × (x ≢ end)
-        × (waits x ≡ false)) (λ x. x ≢ end) (λ x h. h.1) (trail cell (cell v).round v) (stopped.known.passes v inside);
+        × (waits x ≡ false)) (λ x. x ≢ end) (λ x h. h.1) (trail cell (cell v).inner_nodes v) (stopped.known.passes v inside);
     few = λ v inside. omega (arith, stopped.known.few v inside, stopped.fewer);
   }
     where
@@ -287,11 +287,11 @@ module _ (nodes : ℕ) (arc : ℕ → ℕ → Option ℤ) (end : ℕ) (label : �
           let has = has_by v ws cost inside avoids walk in
           subst (λ (z : Option ℤ). IsUpTo z (Some cost)) (sym has.is) has.before.0
 
-      some : (v : ℕ) → v < nodes → 0 < (cell v).round → (o : Option ℤ) → (cell v).cost ≡ o → IsBelow o None
+      some : (v : ℕ) → v < nodes → 0 < (cell v).inner_nodes → (o : Option ℤ) → (cell v).cost ≡ o → IsBelow o None
       some v inside later None is = absurd (omega (arith, later, stopped.known.none v inside is))
       some v inside later (Some w) is = tt
 
-      fewest : (v : ℕ) (ws : List ℕ) → v < nodes → Avoids end ws → length ws < (cell v).round → (o : Option ℤ)
+      fewest : (v : ℕ) (ws : List ℕ) → v < nodes → Avoids end ws → length ws < (cell v).inner_nodes → (o : Option ℤ)
           → walk_cost arc v ws end ≡ o → IsBelow (cell v).cost o
       fewest v ws inside avoids fewer None walk = some v inside (omega (arith, fewer)) (cell v).cost refl
       fewest v ws inside avoids fewer (Some cost) walk =
@@ -301,4 +301,4 @@ module _ (nodes : ℕ) (arc : ℕ → ℕ → Option ℤ) (end : ℕ) (label : �
         where
           less : (has : HasBy (cell v) cost (length ws)) → has.least <ℤ cost
           less has = by_lt_z has.least cost (λ below. below)
-              (λ same. let more : (cell v).round ≤ length ws = has.before.1 same in absurd (omega (arith, more, fewer)))
+              (λ same. let more : (cell v).inner_nodes ≤ length ws = has.before.1 same in absurd (omega (arith, more, fewer)))

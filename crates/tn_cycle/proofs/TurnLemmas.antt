@@ -83,7 +83,7 @@ module _ (nodes : ℕ) (arc : ℕ → ℕ → Option ℤ) (end : ℕ) (cell : �
       by (Some cost) e = absurd (subst (λ (z : Option ℤ). IsUpTo z (Some cost)) is (least_of_all v vs cost inside e))
 
   least_walk : (v : ℕ) (cost : ℤ) → v < nodes → (cell v).cost ≡ Some cost
-      → IsLeastWalk arc v end (trail cell (cell v).round v) cost
+      → IsLeastWalk arc v end (trail cell (cell v).inner_nodes v) cost
   least_walk v cost inside is = record {
     walk = found.leads v inside ∙ is;
     least = λ ws other walk.
@@ -92,13 +92,13 @@ module _ (nodes : ℕ) (arc : ℕ → ℕ → Option ℤ) (end : ℕ) (cell : �
         known;
   }
 
-  apart_from_begin : (v : ℕ) (cost : ℤ) → v < nodes → (cell v).cost ≡ Some cost → Avoids v (trail cell (cell v).round v)
+  apart_from_begin : (v : ℕ) (cost : ℤ) → v < nodes → (cell v).cost ≡ Some cost → Avoids v (trail cell (cell v).inner_nodes v)
   apart_from_begin v cost inside is = elim (cases_eq v end) [
-    | inl same ↦ subst (λ (t : ℕ). Avoids t (trail cell (cell v).round v)) (sym same) (found.avoids v inside)
+    | inl same ↦ subst (λ (t : ℕ). Avoids t (trail cell (cell v).inner_nodes v)) (sym same) (found.avoids v inside)
     | inr other ↦ led_once nodes arc end cell between (λ u vs z _ _ walk. none u vs z walk) found v cost inside other is
   ]
 
-  apart_inside : (v : ℕ) (cost : ℤ) → v < nodes → (cell v).cost ≡ Some cost → AreApart (trail cell (cell v).round v)
+  apart_inside : (v : ℕ) (cost : ℤ) → v < nodes → (cell v).cost ≡ Some cost → AreApart (trail cell (cell v).inner_nodes v)
   apart_inside v cost inside is =
       led_apart nodes arc end cell between (λ u vs z _ _ walk. none u vs z walk) found v cost inside is
 
@@ -109,10 +109,10 @@ module _ (nodes : ℕ) (arc : ℕ → ℕ → Option ℤ) (end : ℕ) (cell : �
       by : (o : Option ℤ) → (cell v).cost ≡ o → LeadsLeast arc v end (walk_nodes false end cell v) o
       by None e = unreached v inside e
       by (Some cost) e = record {
-        inner = trail cell (cell v).round v;
+        inner = trail cell (cell v).inner_nodes v;
         nodes_are = refl;
         least = least_walk v cost inside e;
-        different = different_from_apart (v ∷ trail cell (cell v).round v) (
+        different = different_from_apart (v ∷ trail cell (cell v).inner_nodes v) (
           apart_from_begin v cost inside e,
           apart_inside v cost inside e,
         );
@@ -130,7 +130,7 @@ module _ (nodes : ℕ) (arc : ℕ → ℕ → Option ℤ) (end : ℕ) (cell : �
       by : (o : Option ℤ) → (cell v).cost ≡ o → LeadsLeast (turned arc) end v (walk_nodes true end cell v) o
       by None e = λ vs. back vs ∙ unreached v inside e (reverse vs)
       by (Some cost) e =
-          let inner = trail cell (cell v).round v in
+          let inner = trail cell (cell v).inner_nodes v in
           let here = least_walk v cost inside e in
           record {
             inner = reverse inner;

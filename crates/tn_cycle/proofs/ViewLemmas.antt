@@ -10,9 +10,9 @@ use Rattle.tn_cycle.specs.declared.cell.Cell.{Cell}
 use Rattle.tn_cycle.specs.declared.finder.Finder.TheInside.{Inside}
 use Rattle.tn_cycle.specs.Cells.{cell_at, trail}
 use Rattle.tn_cycle.specs.Searched.{IsSettled}
-use Rattle.tn_cycle.specs.Reading.{HasPlaces, IsListable, Reading, reading_of, walk_nodes}
+use Rattle.tn_cycle.specs.Reading.{HasPlaces, IsListable, Reading, finder_reading, walk_nodes}
 use Rattle.tn_cycle.specs.Answers.{AreNear, LeadsAlong, distance_in, label_in, walk_in}
-use Rattle.tn_cycle.specs.Kept.{signed}
+use Rattle.tn_cycle.specs.Kept.{negated_if}
 use Rattle.tn_cycle.specs.Widths.{most_label}
 use Rattle.tn_cycle.proofs.KeptCycleLemmas.{signed_near}
 use Rattle.tn_cycle.proofs.ReadLemmas.{front-written}
@@ -42,7 +42,7 @@ taken-set (suc count) (y ∷ ys) (suc i) x = ap (λ (zs : List _). y ∷ zs) (ta
 
 -- all labels are read off the finder, where there is one for each place
 pub all-read : (f : Inside) (now : Reading)
-    → reading_of f.nodes f.count f.path.items f.labelled f.labels.items f.reached f.turns f.end f.row.items ≡ now
+    → finder_reading f.nodes f.count f.path.items f.labelled f.labels.items f.reached f.turns f.end f.row.items ≡ now
     → length f.labels.items ≤ length now.labels → now.labels ≡ f.labels.items
 all-read f now view many =
     let is : take f.labelled f.labels.items ≡ now.labels = ap (λ (reading : Reading). reading.labels) view in
@@ -51,13 +51,13 @@ all-read f now view many =
 
 -- how many nodes are read off the finder
 pub nodes-read : (f : Inside) (now : Reading)
-    → reading_of f.nodes f.count f.path.items f.labelled f.labels.items f.reached f.turns f.end f.row.items ≡ now
+    → finder_reading f.nodes f.count f.path.items f.labelled f.labels.items f.reached f.turns f.end f.row.items ≡ now
     → now.nodes ≡ f.nodes
 nodes-read f now view = ap (λ (reading : Reading). reading.nodes) (sym view)
 
 -- a finder that lends all its labels
 module _ (f : Inside) (now : Reading)
-    (view : reading_of f.nodes f.count f.path.items f.labelled f.labels.items f.reached f.turns f.end f.row.items ≡ now)
+    (view : finder_reading f.nodes f.count f.path.items f.labelled f.labels.items f.reached f.turns f.end f.row.items ≡ now)
     (sized : f.labels.len ≡ f.nodes) (labelled : length now.labels ≡ now.nodes) where
   -- those that are lent are those that were read
   pub lent-read : (lent : List ℤ) → lent ≡ f.labels.items → length lent ≡ f.labels.len → now.labels ≡ lent
@@ -83,7 +83,7 @@ module _ (f : Inside) (now : Reading)
 
 -- labels, or their negatives, that were written
 pub signed_near_all : (negates : Bool) (old new : List ℤ) → length new ≡ length old → AreNear most_label old
-    → ((v : ℕ) → v < length old → label_in new v ≡ signed negates (label_in old v)) → AreNear most_label new
+    → ((v : ℕ) → v < length old → label_in new v ≡ negated_if negates (label_in old v)) → AreNear most_label new
 signed_near_all negates old new sized near are v inside =
     let places : v < length old = omega (arith, inside, sized) in
     subst (λ (z : ℤ). IsAtMost z most_label) (sym (are v places))
@@ -91,25 +91,25 @@ signed_near_all negates old new sized near are v inside =
 
 pub signed_keep : (negates : Bool) (nodes : ℕ) (arc : ℕ → ℕ → Option ℤ) (old new : List ℤ) → AreBetweenNodes nodes arc
     → nodes ≡ length old
-    → ((v : ℕ) → v < length old → label_in new v ≡ signed negates (label_in old v))
-    → KeepsArcs arc (λ v. signed negates (label_in old v)) → KeepsArcs arc (label_in new)
+    → ((v : ℕ) → v < length old → label_in new v ≡ negated_if negates (label_in old v))
+    → KeepsArcs arc (λ v. negated_if negates (label_in old v)) → KeepsArcs arc (label_in new)
 signed_keep negates nodes arc old new between sized are keeps u v cost is =
     let two = between u v cost is in
-    let first : label_in new u ≡ signed negates (label_in old u) = are u (omega (arith, two.0, sized)) in
-    let second : label_in new v ≡ signed negates (label_in old v) = are v (omega (arith, two.1, sized)) in
-    let kept : signed negates (label_in old v) ≤ℤ (signed negates (label_in old u) +ℤ cost) = keeps u v cost is in
+    let first : label_in new u ≡ negated_if negates (label_in old u) = are u (omega (arith, two.0, sized)) in
+    let second : label_in new v ≡ negated_if negates (label_in old v) = are v (omega (arith, two.1, sized)) in
+    let kept : negated_if negates (label_in old v) ≤ℤ (negated_if negates (label_in old u) +ℤ cost) = keeps u v cost is in
     omega (arith, ints, first, second, kept)
 
 -- the cost and the walk of a node
 pub distance-read : (nodes count : ℕ) (path : List ℕ) (labelled : ℕ) (labels : List ℤ) (reached : ℕ) (turns : Bool)
     (end : ℕ) (row : List Cell) (v : ℕ) → v < reached
-    → distance_in (reading_of nodes count path labelled labels reached turns end row) v ≡ (cell_at row v).cost
+    → distance_in (finder_reading nodes count path labelled labels reached turns end row) v ≡ (cell_at row v).cost
 distance-read nodes count path labelled labels reached turns end row v inside =
     get_or-map-range_with_len (λ (u : ℕ). (cell_at row u).cost) 0 reached v v None inside (omega arith)
 
 pub walk-read : (nodes count : ℕ) (path : List ℕ) (labelled : ℕ) (labels : List ℤ) (reached : ℕ) (turns : Bool)
     (end : ℕ) (row : List Cell) (v : ℕ) → v < reached
-    → walk_in (reading_of nodes count path labelled labels reached turns end row) v
+    → walk_in (finder_reading nodes count path labelled labels reached turns end row) v
     ≡ walk_nodes turns end (cell_at row) v
 walk-read nodes count path labelled labels reached turns end row v inside =
     get_or-map-range_with_len (walk_nodes turns end (cell_at row)) 0 reached v v _ inside (omega arith)
@@ -117,13 +117,13 @@ walk-read nodes count path labelled labels reached turns end row v inside =
 -- how many nodes have a cost
 pub distances-count : (nodes count : ℕ) (path : List ℕ) (labelled : ℕ) (labels : List ℤ) (reached : ℕ) (turns : Bool)
     (end : ℕ) (row : List Cell)
-    → length (reading_of nodes count path labelled labels reached turns end row).distances ≡ reached
+    → length (finder_reading nodes count path labelled labels reached turns end row).distances ≡ reached
 distances-count nodes count path labelled labels reached turns end row =
     length-map-range_with_len (λ (u : ℕ). (cell_at row u).cost) 0 reached
 
 -- and that many are read off the finder
 pub reached-read : (f : Inside) (now : Reading)
-    → reading_of f.nodes f.count f.path.items f.labelled f.labels.items f.reached f.turns f.end f.row.items ≡ now
+    → finder_reading f.nodes f.count f.path.items f.labelled f.labels.items f.reached f.turns f.end f.row.items ≡ now
     → length now.distances ≡ f.reached
 reached-read f now view =
     ap (λ (reading : Reading). length reading.distances) (sym view)
@@ -134,11 +134,11 @@ pub listable_all : (nodes : ℕ) (arc : ℕ → ℕ → Option ℤ) (end : ℕ) 
     → HasNoNegativeCycle arc
     → IsSettled nodes arc end (cell_at row) → nodes ≤ length row → (v : ℕ) → v < nodes → IsListable (nodes + 2) row v
 listable_all nodes arc end row between none found places v inside =
-    let short : (cell_at row v).round < nodes = found.few v inside in
+    let short : (cell_at row v).inner_nodes < nodes = found.few v inside in
     record {
       few = omega (arith, short);
       inside = All-weaker (λ u. u < nodes) (λ u. u < length row) (λ u h. omega (arith, h, places))
-          (trail (cell_at row) (cell_at row v).round v)
+          (trail (cell_at row) (cell_at row v).inner_nodes v)
           (led_inside nodes arc end (cell_at row) between (λ u vs z _ _ walk. none u vs z walk) found v inside);
     }
 
@@ -146,10 +146,10 @@ listable_all nodes arc end row between none found places v inside =
 pub reads_along : (turns : Bool) (nodes : ℕ) (arc : ℕ → ℕ
     → Option ℤ) (end : ℕ) (path : List ℕ) (labels : List ℤ) (row : List Cell) → AreBetweenNodes nodes arc
     → HasNoNegativeCycle arc → IsSettled nodes arc end (cell_at row) → (v : ℕ) → v < nodes
-    → LeadsAlong turns arc v end (walk_in (reading_of nodes 0 path 0 labels nodes turns end row) v)
-    (distance_in (reading_of nodes 0 path 0 labels nodes turns end row) v)
+    → LeadsAlong turns arc v end (walk_in (finder_reading nodes 0 path 0 labels nodes turns end row) v)
+    (distance_in (finder_reading nodes 0 path 0 labels nodes turns end row) v)
 reads_along turns nodes arc end path labels row between none found v inside =
-    let reading = reading_of nodes 0 path 0 labels nodes turns end row in
+    let reading = finder_reading nodes 0 path 0 labels nodes turns end row in
     subst (λ (xs : List ℕ). LeadsAlong turns arc v end xs (distance_in reading v))
     (sym (walk-read nodes 0 path 0 labels nodes turns end row v inside))
     (subst (LeadsAlong turns arc v end (walk_nodes turns end (cell_at row) v))

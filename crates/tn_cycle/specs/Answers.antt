@@ -62,7 +62,7 @@ pub record AreLabels (nodes : ℕ) (arc : ℕ → ℕ → Option ℤ) (labels : 
   pub low : (limit v : ℕ) → AreSmall arc limit → v < nodes → neg_ℤ (pos ((nodes - 1) * limit)) ≤ℤ label_in labels v
 
 -- a number that is at most 0 and at most the costs of the first cells, and that no other such number is above
-pub record IsLowest (nodes : ℕ) (cell : ℕ → Cell) (lowest : ℤ) : Type 0 where
+pub record IsLowestCost (nodes : ℕ) (cell : ℕ → Cell) (lowest : ℤ) : Type 0 where
   pub at_most_none : lowest ≤ℤ pos 0
   pub at_most_each : (v : ℕ) → v < nodes → lowest ≤ℤ unwrap_or (cell v).cost (pos 0)
   pub greatest : (bound : ℤ) → bound ≤ℤ pos 0 → ((v : ℕ) → v < nodes → bound ≤ℤ unwrap_or (cell v).cost (pos 0))

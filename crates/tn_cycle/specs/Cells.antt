@@ -7,7 +7,7 @@ use Rattle.tn_cycle.specs.Widths.{most_walk_cost}
 
 -- the cell of a node of which nothing is known
 abbrev pub no_cell : Cell
-no_cell = record { cost = None; round = 0; next = 0 }
+no_cell = record { cost = None; inner_nodes = 0; next = 0 }
 
 -- the cell of a node
 abbrev pub cell_at : List Cell → ℕ → Cell

@@ -2,8 +2,8 @@
 use Rattle.std.specs.Prelude.{ℕ, Bool, ◌==◌, ◌&&◌, nat_lt, nat_le, if◌then◌else◌, ℤ, pos, Option, Some, None}
 
 -- whether a node is a trade from the first on
-abbrev pub is_between : ℕ → ℕ → ℕ → Bool
-is_between first null v = nat_le first v && nat_lt v null
+abbrev pub is_trade_from : ℕ → ℕ → ℕ → Bool
+is_trade_from first null v = nat_le first v && nat_lt v null
 
 -- the graph with one node more, to which an arc of cost 0 leads from each other node
 abbrev pub with_sink : ℕ → (ℕ → ℕ → Option ℤ) → ℕ → ℕ → Option ℤ

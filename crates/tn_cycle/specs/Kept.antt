@@ -18,21 +18,21 @@ abbrev pub every : ℕ → Bool
 every v = true
 
 -- the node at a place of a list
-abbrev pub node_at : List ℕ → ℕ → ℕ
-node_at list i = slice_index_or list i 0
+abbrev pub node_in_list : List ℕ → ℕ → ℕ
+node_in_list list i = slice_index_or list i 0
 
 -- the labels and the cells of a list's nodes, by their places
 abbrev pub label_by : (ℕ → ℤ) → List ℕ → ℕ → ℤ
-label_by label list i = label (node_at list i)
+label_by label list i = label (node_in_list list i)
 
 abbrev pub cell_by : (ℕ → Cell) → List ℕ → ℕ → Cell
-cell_by cell list i = cell (node_at list i)
+cell_by cell list i = cell (node_in_list list i)
 
 -- the first so many places of a list have the nodes that wait, each one once
 pub record AreWaiting (nodes : ℕ) (waits : ℕ → Bool) (list : List ℕ) (count : ℕ) : Type 0 where
-  pub each : (i : ℕ) → i < count → (node_at list i < nodes) × (waits (node_at list i) ≡ true)
-  pub all : (v : ℕ) → v < nodes → waits v ≡ true → (i : ℕ) × (i < count) × (node_at list i ≡ v)
-  pub once : (i k : ℕ) → i < count → k < count → node_at list i ≡ node_at list k → i ≡ k
+  pub each : (i : ℕ) → i < count → (node_in_list list i < nodes) × (waits (node_in_list list i) ≡ true)
+  pub all : (v : ℕ) → v < nodes → waits v ≡ true → (i : ℕ) × (i < count) × (node_in_list list i ≡ v)
+  pub once : (i k : ℕ) → i < count → k < count → node_in_list list i ≡ node_in_list list k → i ≡ k
 
 -- a node waits, and has a walk
 abbrev pub is_ready : Bool → Cell → Bool
@@ -63,7 +63,7 @@ IsNotAfter a m b n = (a ≤ℤ b) × (b ≤ℤ a → m ≤ n)
 pub record HasBy (own : Cell) (cost : ℤ) (inner : ℕ) : Type 0 where
   pub least : ℤ
   pub is : own.cost ≡ Some least
-  pub before : IsNotAfter least own.round cost inner
+  pub before : IsNotAfter least own.inner_nodes cost inner
 
 -- a cost is at least the cap
 abbrev pub IsCapped : Option ℤ → ℤ → Type 0
@@ -76,40 +76,40 @@ IsPast (seek.Cycle cap) own cost inner = HasBy own cost inner ⊎ IsCapped cap c
 
 -- a node that waits, with its walk, before which no other one comes
 pub record ComesFirst (nodes : ℕ) (label : ℕ → ℤ) (cell : ℕ → Cell) (waits : ℕ
-    → Bool) (u : ℕ) (key : ℤ) (round : ℕ) : Type 0 where
+    → Bool) (u : ℕ) (key : ℤ) (inner_nodes : ℕ) : Type 0 where
   pub inside : u < nodes
   pub waiting : waits u ≡ true
   pub cost : ℤ
   pub cost_is : (cell u).cost ≡ Some cost
   pub key_is : key ≡ cost +ℤ label u
-  pub round_is : round ≡ (cell u).round
+  pub inner_nodes_is : inner_nodes ≡ (cell u).inner_nodes
   pub first : (v : ℕ) (w : ℤ) → v < nodes → waits v ≡ true → (cell v).cost ≡ Some w
-      → IsNotAfter key round (w +ℤ label v) (cell v).round
+      → IsNotAfter key inner_nodes (w +ℤ label v) (cell v).inner_nodes
 
 -- no node that waits matters
 abbrev pub AllArePast : ℕ → ℤ → Sought → (ℕ → ℤ) → (ℕ → Cell) → Cell → (ℕ → Bool) → Type 0
 AllArePast nodes base sought label cell own waits =
     (v : ℕ) (w : ℤ) → v < nodes → waits v ≡ true → (cell v).cost ≡ Some w
-    → IsPast sought own ((w +ℤ label v) -ℤ base) (cell v).round
+    → IsPast sought own ((w +ℤ label v) -ℤ base) (cell v).inner_nodes
 
-abbrev pub IsNext : ℕ → ℤ → Sought → (ℕ → ℤ) → (ℕ → Cell) → Cell → (ℕ → Bool) → Option ℕ → Type 0
-IsNext nodes base sought label cell own waits None = AllArePast nodes base sought label cell own waits
-IsNext nodes base sought label cell own waits (Some u) = (key : ℤ) × (round : ℕ)
-    × ComesFirst nodes label cell waits u key round
+abbrev pub IsNextToSettle : ℕ → ℤ → Sought → (ℕ → ℤ) → (ℕ → Cell) → Cell → (ℕ → Bool) → Option ℕ → Type 0
+IsNextToSettle nodes base sought label cell own waits None = AllArePast nodes base sought label cell own waits
+IsNextToSettle nodes base sought label cell own waits (Some u) = (key : ℤ) × (inner_nodes : ℕ)
+    × ComesFirst nodes label cell waits u key inner_nodes
 
 -- a cell goes on over u, whose own cell is the one beyond
 pub record GoesOver (first : Option ℤ) (beyond : Cell) (u : ℕ) (new : Cell) : Type 0 where
   pub cost : ℤ
   pub cost_is : new.cost ≡ Some cost
   pub sum : both first beyond.cost ≡ Some cost
-  pub round_is : new.round ≡ beyond.round + 1
+  pub inner_nodes_is : new.inner_nodes ≡ beyond.inner_nodes + 1
   pub next_is : new.next ≡ u
 
 -- the better one of a cell and of going on over u
 pub record IsOffered (own : Cell) (first : Option ℤ) (beyond : Cell) (u : ℕ) (new : Cell) : Type 0 where
   pub step : (new ≡ own) ⊎ GoesOver first beyond u new
-  pub by_own : (x : ℤ) → own.cost ≡ Some x → HasBy new x own.round
-  pub by_offer : (x : ℤ) → both first beyond.cost ≡ Some x → HasBy new x (beyond.round + 1)
+  pub by_own : (x : ℤ) → own.cost ≡ Some x → HasBy new x own.inner_nodes
+  pub by_offer : (x : ℤ) → both first beyond.cost ≡ Some x → HasBy new x (beyond.inner_nodes + 1)
 
 -- the cell of v after u is settled: only a node that waits and the end may go on over it
 abbrev pub AfterOffer : (ℕ → ℕ → Option ℤ) → ℕ → ℕ → Cell → Bool → ℕ → Cell → Cell → Type 0
@@ -128,19 +128,19 @@ pub record IsUnderWay (nodes : ℕ) (arc : ℕ → ℕ → Option ℤ) (end : �
   -- no cell is after the arc to the end, nor after going on over a settled node
   pub first : (v : ℕ) (cost : ℤ) → v < nodes → arc v end ≡ Some cost → HasBy (cell v) cost 0
   pub over : (v u : ℕ) (cost w : ℤ) → u ≢ end → waits u ≡ false → arc v u ≡ Some cost → (cell u).cost ≡ Some w
-      → HasBy (cell v) (cost +ℤ w) ((cell u).round + 1)
+      → HasBy (cell v) (cost +ℤ w) ((cell u).inner_nodes + 1)
   -- no settled node that an arc leads from, other than to the end, is after a waiting one
   pub order : (v u : ℕ) (w x : ℤ) → v < nodes → u < nodes → v ≢ end → LeadsOff arc end v → waits v ≡ false
       → waits u ≡ true → (cell v).cost ≡ Some w → (cell u).cost ≡ Some x
-      → IsNotAfter (w +ℤ label v) (cell v).round (x +ℤ label u) (cell u).round
+      → IsNotAfter (w +ℤ label v) (cell v).inner_nodes (x +ℤ label u) (cell u).inner_nodes
   pub reached : (v u : ℕ) (cost : ℤ) → v ≢ end → waits v ≡ false → arc v u ≡ Some cost → (w : ℤ)
       × ((cell v).cost ≡ Some w)
   -- each cell leads along a walk of its cost over settled nodes
-  pub leads : (v : ℕ) → v < nodes → walk_cost arc v (trail cell (cell v).round v) end ≡ (cell v).cost
+  pub leads : (v : ℕ) → v < nodes → walk_cost arc v (trail cell (cell v).inner_nodes v) end ≡ (cell v).cost
   pub passes : (v : ℕ) → v < nodes → All (λ x. (x < nodes) × (x ≢ end)
-      × (waits x ≡ false)) (trail cell (cell v).round v)
-  pub none : (v : ℕ) → v < nodes → (cell v).cost ≡ None → (cell v).round ≡ 0
-  pub few : (v : ℕ) → v < nodes → (cell v).round ≤ settled
+      × (waits x ≡ false)) (trail cell (cell v).inner_nodes v)
+  pub none : (v : ℕ) → v < nodes → (cell v).cost ≡ None → (cell v).inner_nodes ≡ 0
+  pub few : (v : ℕ) → v < nodes → (cell v).inner_nodes ≤ settled
 
 -- a search that has stopped, as no node that waits matters
 pub record IsStopped (nodes : ℕ) (arc : ℕ → ℕ → Option ℤ) (end : ℕ) (sought : Sought) (label : ℕ → ℤ) (cell : ℕ
@@ -169,8 +169,8 @@ IsCounted cap cost = (most : ℤ) → cap ≡ Some most → cost <ℤ most
 abbrev pub IsCycleRead : (ℕ → Cell) → ℕ → Option ℤ → List ℕ → Path → Type 0
 IsCycleRead cell t cap listed path.None = ((w : ℤ) → (cell t).cost ≡ Some w → IsCapped cap w) × (listed ≡ [])
 IsCycleRead cell t cap listed (path.Cycle cost count) =
-    ((cell t).cost ≡ Some cost) × IsCounted cap cost × (listed ≡ t ∷ trail cell (cell t).round t)
-    × (count ≡ (cell t).round + 1)
+    ((cell t).cost ≡ Some cost) × IsCounted cap cost × (listed ≡ t ∷ trail cell (cell t).inner_nodes t)
+    × (count ≡ (cell t).inner_nodes + 1)
 
 -- the greater of a number so far and what a cost lacks to a label
 pub record IsLiftedBy (least : Option ℤ) (label : ℤ) (cost found : Option ℤ) : Type 0 where
@@ -188,6 +188,6 @@ abbrev pub IsOther : ℕ → ℕ → ℕ → ℕ → Bool → Type 0
 IsOther null node allowed v mark = (v ≡ node → mark ≡ false) × (v ≢ node → mark ≡ is_admitted null allowed v)
 
 -- a number or its negative
-abbrev pub signed : Bool → ℤ → ℤ
-signed true z = neg_ℤ z
-signed false z = z
+abbrev pub negated_if : Bool → ℤ → ℤ
+negated_if true z = neg_ℤ z
+negated_if false z = z

@@ -35,15 +35,15 @@ pub record ReadsWalks (nodes : ℕ) (reading : Reading) : Type 0 where
 
 -- the nodes from v on that the cells lead to, and the end
 abbrev pub way : ℕ → (ℕ → Cell) → ℕ → List ℕ
-way end cell v = (v ∷ trail cell (cell v).round v) ++ end ∷ []
+way end cell v = (v ∷ trail cell (cell v).inner_nodes v) ++ end ∷ []
 
 -- the nodes of a walk in order: from v to the end, or in the graph turned round from the end to v
 abbrev pub walk_nodes : Bool → ℕ → (ℕ → Cell) → ℕ → List ℕ
 walk_nodes turns end cell v = if turns then reverse (way end cell v) else way end cell v
 
 -- what the finder's parts let be read, the first so many of each
-abbrev pub reading_of : ℕ → ℕ → List ℕ → ℕ → List ℤ → ℕ → Bool → ℕ → List Cell → Reading
-reading_of nodes count path labelled labels reached turns end row = record {
+abbrev pub finder_reading : ℕ → ℕ → List ℕ → ℕ → List ℤ → ℕ → Bool → ℕ → List Cell → Reading
+finder_reading nodes count path labelled labels reached turns end row = record {
   nodes = nodes;
   listed = take count path;
   labels = take labelled labels;
@@ -53,8 +53,8 @@ reading_of nodes count path labelled labels reached turns end row = record {
 
 -- the nodes that the cell of v leads to are nodes, and few enough to be listed
 pub record IsListable (places : ℕ) (row : List Cell) (v : ℕ) : Type 0 where
-  pub few : (cell_at row v).round + 2 ≤ places
-  pub inside : All (λ u. u < length row) (trail (cell_at row) (cell_at row v).round v)
+  pub few : (cell_at row v).inner_nodes + 2 ≤ places
+  pub inside : All (λ u. u < length row) (trail (cell_at row) (cell_at row v).inner_nodes v)
 
 -- the finder's lists are long enough for its nodes
 pub record HasPlaces (nodes count labelled reached path labels row_places waits spaces : ℕ)

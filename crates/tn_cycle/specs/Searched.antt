@@ -13,8 +13,8 @@ HasNoNegativeCycleOff arc t =
 -- for each node, its cell has the least cost of a walk to the end and leads along such a walk with the fewest arcs
 pub record IsSettled (nodes : ℕ) (arc : ℕ → ℕ → Option ℤ) (end : ℕ) (cell : ℕ → Cell) : Type 0 where
   pub least : (v : ℕ) (ws : List ℕ) → v < nodes → Avoids end ws → IsUpTo (cell v).cost (walk_cost arc v ws end)
-  pub fewest : (v : ℕ) (ws : List ℕ) → v < nodes → Avoids end ws → length ws < (cell v).round
+  pub fewest : (v : ℕ) (ws : List ℕ) → v < nodes → Avoids end ws → length ws < (cell v).inner_nodes
       → IsBelow (cell v).cost (walk_cost arc v ws end)
-  pub leads : (v : ℕ) → v < nodes → walk_cost arc v (trail cell (cell v).round v) end ≡ (cell v).cost
-  pub avoids : (v : ℕ) → v < nodes → Avoids end (trail cell (cell v).round v)
-  pub few : (v : ℕ) → v < nodes → (cell v).round < nodes
+  pub leads : (v : ℕ) → v < nodes → walk_cost arc v (trail cell (cell v).inner_nodes v) end ≡ (cell v).cost
+  pub avoids : (v : ℕ) → v < nodes → Avoids end (trail cell (cell v).inner_nodes v)
+  pub few : (v : ℕ) → v < nodes → (cell v).inner_nodes < nodes

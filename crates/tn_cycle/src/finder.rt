@@ -2,7 +2,7 @@
 
 ghost use Rattle.std.specs.Prelude.{◌≡◌, ℕ, ◌+◌, ◌-◌, ◌*◌, ◌<◌, ◌≤◌, pos, ◌+ℤ◌, Some, [], length, set, slice_get, IfOk, IsSome};
 ghost use Rattle.tn_base.specs.Walks.{arcs_among, is_admitted, is_looked_at, KeepsArcs, KeepsArcsEntering};
-ghost use Rattle.tn_cycle.specs.Kept.{signed};
+ghost use Rattle.tn_cycle.specs.Kept.{negated_if};
 ghost use Rattle.tn_cycle.specs.Widths.{label_step, most_graph_nodes, most_label};
 
 use crate::answer::{Labels, Path};
@@ -50,11 +50,11 @@ pub struct Finder {
 
 impl Model for Finder {
     ghost use Rattle.std.specs.Prelude.{vec_len};
-    ghost use Rattle.tn_cycle.specs.Reading.{HasPlaces, Reading, reading_of};
+    ghost use Rattle.tn_cycle.specs.Reading.{HasPlaces, Reading, finder_reading};
 
     ghost Value = { Reading };
 
-    ghost view = { λ f. reading_of f.nodes f.count f.path.items f.labelled f.labels.items f.reached f.turns f.end
+    ghost view = { λ f. finder_reading f.nodes f.count f.path.items f.labelled f.labels.items f.reached f.turns f.end
         f.row.items };
 
     ghost invariant = { λ f. HasPlaces f.nodes f.count f.labelled f.reached (vec_len f.path) (vec_len f.labels)
@@ -74,7 +74,7 @@ impl Finder {
     {
         let cell = Cell {
             cost: None,
-            round: 0,
+            inner_nodes: 0,
             next: 0,
         };
         let places = nodes as usize;
@@ -337,7 +337,7 @@ impl Finder {
         requires inside { node < self.old.nodes }
         requires labelled { length self.old.labels ≡ self.old.nodes }
         requires near { AreNear most_label self.old.labels }
-        requires keeps { KeepsArcs (C.arc costs.now) (λ v. signed turns (label_in self.old.labels v)) }
+        requires keeps { KeepsArcs (C.arc costs.now) (λ v. negated_if turns (label_in self.old.labels v)) }
         ensures walks { (v : ℕ) → v < self.old.nodes
             → LeadsAlong turns (C.arc costs.now) v node (walk_in self.new v) (distance_in self.new v) }
         ensures rest { ReadsWalks self.old.nodes self.new }

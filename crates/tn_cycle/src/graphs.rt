@@ -3,7 +3,7 @@
 ghost use Rattle.std.specs.Prelude.{◌≡◌, ℕ, ◌+◌, ◌*◌, ◌^◌, ◌<◌, ◌≤◌, ◌==◌, if◌then◌else◌, length};
 ghost use Rattle.tn_base.specs.Walks.{arcs_among, is_admitted, is_looked_at};
 ghost use Rattle.tn_base.specs.Widths.{most_cost};
-ghost use Rattle.tn_cycle.specs.Graphs.{is_between, turned, with_sink};
+ghost use Rattle.tn_cycle.specs.Graphs.{is_trade_from, turned, with_sink};
 ghost use Rattle.tn_cycle.specs.Kept.{IsOther, flag_at};
 ghost use Rattle.tn_cycle.specs.Widths.{most_graph_nodes};
 ghost use Rattle.tn_cycle.specs.GraphLemmas.{between-arcs_among, between-turned, between-with_sink, small-arcs_among, small-turned, small-with_sink};
@@ -212,7 +212,7 @@ pub struct Part<'a, C> {
 impl<C: Costs> Costs for Part<'_, C> {
     ghost node_count = { λ it. C.node_count it.costs.now };
 
-    ghost arc = { λ it. arcs_among (is_between it.first it.null) (C.arc it.costs.now) };
+    ghost arc = { λ it. arcs_among (is_trade_from it.first it.null) (C.arc it.costs.now) };
 
     ghost predecessor_count = { λ it b. C.predecessor_count it.costs.now b };
 
@@ -250,17 +250,17 @@ impl<C: Costs> Costs for Part<'_, C> {
         self.costs.successor(a, k)
     }
 
-    ghost between_nodes = { λ it. between-arcs_among (is_between it.first it.null) (C.node_count it.costs.now)
+    ghost between_nodes = { λ it. between-arcs_among (is_trade_from it.first it.null) (C.node_count it.costs.now)
         (C.arc it.costs.now) (C.between_nodes it.costs.now) };
 
-    ghost small = { λ it. small-arcs_among (is_between it.first it.null) most_cost (C.arc it.costs.now)
+    ghost small = { λ it. small-arcs_among (is_trade_from it.first it.null) most_cost (C.arc it.costs.now)
         (C.small it.costs.now) };
 
-    ghost lists_predecessors = { λ it. lists_predecessors-arcs_among (is_between it.first it.null)
+    ghost lists_predecessors = { λ it. lists_predecessors-arcs_among (is_trade_from it.first it.null)
         (C.node_count it.costs.now) (C.arc it.costs.now) (C.predecessor_count it.costs.now)
         (C.predecessor_at it.costs.now) (C.lists_predecessors it.costs.now) };
 
-    ghost lists_successors = { λ it. lists_successors-arcs_among (is_between it.first it.null)
+    ghost lists_successors = { λ it. lists_successors-arcs_among (is_trade_from it.first it.null)
         (C.node_count it.costs.now) (C.arc it.costs.now) (C.successor_count it.costs.now)
         (C.successor_at it.costs.now) (C.lists_successors it.costs.now) };
 }

@@ -2,7 +2,7 @@
 
 ghost use Rattle.std.specs.Prelude.{◌≡◌, ℕ, ◌+◌, ◌^◌, ◌<◌, ◌≤◌, length, take};
 ghost use Rattle.tn_cycle.specs.Answers.{AnswersGrown, arc_count};
-ghost use Rattle.tn_cycle.specs.Graphs.{is_between};
+ghost use Rattle.tn_cycle.specs.Graphs.{is_trade_from};
 ghost use Rattle.tn_cycle.specs.Kept.{flag_at};
 ghost use Rattle.tn_cycle.specs.Widths.{most_graph_nodes};
 
@@ -14,7 +14,7 @@ use tn_base::Costs;
 
 /// Marks the trades from the first on.
 fn mark_between(marks: &mut [bool], first: u32, null: u32)
-    ensures { (v : ℕ) → v < length marks.old → flag_at marks.new v ≡ is_between first null v }
+    ensures { (v : ℕ) → v < length marks.old → flag_at marks.new v ≡ is_trade_from first null v }
 {
     for v in 0..marks.len() {
         marks[v] = first as usize <= v && v < null as usize;

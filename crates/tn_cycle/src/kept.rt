@@ -7,7 +7,7 @@ ghost use Rattle.tn_base.specs.Options.{both};
 ghost use Rattle.tn_base.specs.Widths.{most_cost};
 ghost use Rattle.tn_cycle.specs.Answers.{AreNear, label_in};
 ghost use Rattle.tn_cycle.specs.Cells.{HasRoom, cell_at};
-ghost use Rattle.tn_cycle.specs.Kept.{AreOffered, AreReady, GoesOver, HasBy, IsCapped, IsCounted, IsNext, IsNotAfter, IsOffered, IsPast, IsStopped, KeepsArcsOff, cell_by, every, flag_at, is_ready, label_by, node_at};
+ghost use Rattle.tn_cycle.specs.Kept.{AreOffered, AreReady, GoesOver, HasBy, IsCapped, IsCounted, IsNextToSettle, IsNotAfter, IsOffered, IsPast, IsStopped, KeepsArcsOff, cell_by, every, flag_at, is_ready, label_by, node_in_list};
 ghost use Rattle.tn_cycle.specs.Queue.{AreQueued, HasKey, IsBefore, IsHeap, IsQueue};
 ghost use Rattle.tn_cycle.specs.Widths.{most_graph_nodes, most_label, most_walk_cost};
 
@@ -29,18 +29,18 @@ fn begin<C: Costs>(costs: &C, end: u32, row: &mut [Cell])
     requires sized { C.node_count costs.now ≤ length row.old }
     requires inside { end < C.node_count costs.now }
     ensures { (v : ℕ) → v < C.node_count costs.now →
-        cell_at row.new v ≡ record { cost = C.arc costs.now v end; round = 0; next = end } }
+        cell_at row.new v ≡ record { cost = C.arc costs.now v end; inner_nodes = 0; next = end } }
 {
     row.fill(Cell {
         cost: None,
-        round: 0,
+        inner_nodes: 0,
         next: end,
     });
     for k in 0..costs.predecessors(end) {
         let v = costs.predecessor(end, k);
         row[v as usize] = Cell {
             cost: costs.cost(v, end),
-            round: 0,
+            inner_nodes: 0,
             next: end,
         };
     }
@@ -113,11 +113,11 @@ fn over(key: i128, base: i128) -> i128
 }
 
 /// Whether a cell's walk costs at most so much, and where it costs just that, has at most so many nodes inside.
-fn has_by(own: Cell, cost: i128, round: u32) -> bool
-    ensures { result ≡ true → HasBy own cost round }
+fn has_by(own: Cell, cost: i128, inner_nodes: u32) -> bool
+    ensures { result ≡ true → HasBy own cost inner_nodes }
 {
     match own.cost {
-        Some(least) => is_not_after(least, own.round, cost, round),
+        Some(least) => is_not_after(least, own.inner_nodes, cost, inner_nodes),
         None => false,
     }
 }
@@ -134,12 +134,12 @@ pub(crate) fn is_capped(cap: Option<i128>, cost: i128) -> bool
 }
 
 /// Whether no walk of this cost is sought: it is past that of the end, or past the cap, where a cycle is sought.
-fn is_past(sought: Sought, own: Cell, cost: i128, round: u32) -> bool
-    ensures { result ≡ true → IsPast sought own cost round }
+fn is_past(sought: Sought, own: Cell, cost: i128, inner_nodes: u32) -> bool
+    ensures { result ≡ true → IsPast sought own cost inner_nodes }
 {
     match sought {
         Sought::Walks => false,
-        Sought::Cycle(cap) => has_by(own, cost, round) || is_capped(cap, cost),
+        Sought::Cycle(cap) => has_by(own, cost, inner_nodes) || is_capped(cap, cost),
     }
 }
 
@@ -155,15 +155,15 @@ fn front_counts(
     count: u32,
 ) -> bool
     requires room { count ≤ length list.now }
-    requires keyed { (i : ℕ) → i < count → HasKey labels.now row.now (node_at list.now i) }
-    requires reached { (i : ℕ) → i < count → is_some (cell_at row.now (node_at list.now i)).cost ≡ true }
+    requires keyed { (i : ℕ) → i < count → HasKey labels.now row.now (node_in_list list.now i) }
+    requires reached { (i : ℕ) → i < count → is_some (cell_at row.now (node_in_list list.now i)).cost ≡ true }
     requires heap { IsHeap (IsBefore (label_in labels.now) (cell_at row.now)) list.now count }
     requires near { AreNear (2 * most_label) labels.now }
     requires last { end < length row.now }
     requires base { IsAtMost base (2 * most_label) }
-    ensures yes { result ≡ true → IsNext count base sought (label_by (label_in labels.now) list.now)
+    ensures yes { result ≡ true → IsNextToSettle count base sought (label_by (label_in labels.now) list.now)
         (cell_by (cell_at row.now) list.now) (cell_at row.now end) every (Some 0) }
-    ensures no { result ≡ false → IsNext count base sought (label_by (label_in labels.now) list.now)
+    ensures no { result ≡ false → IsNextToSettle count base sought (label_by (label_in labels.now) list.now)
         (cell_by (cell_at row.now) list.now) (cell_at row.now end) every None }
 {
     if count == 0 {
@@ -175,19 +175,19 @@ fn front_counts(
         sought,
         row[end as usize],
         over(key, base),
-        row[front as usize].round,
+        row[front as usize].inner_nodes,
     )
 }
 
 /// Whether a walk of this cost, with so many nodes inside and this one first, is better than that of the cell.
-fn improves(own: Cell, cost: i128, round: u32, next: u32) -> bool
-    ensures yes { result ≡ true → (x : ℤ) → own.cost ≡ Some x → IsNotAfter cost round x own.round }
-    ensures no { result ≡ false → HasBy own cost round }
+fn improves(own: Cell, cost: i128, inner_nodes: u32, next: u32) -> bool
+    ensures yes { result ≡ true → (x : ℤ) → own.cost ≡ Some x → IsNotAfter cost inner_nodes x own.inner_nodes }
+    ensures no { result ≡ false → HasBy own cost inner_nodes }
 {
     match own.cost {
         None => true,
-        Some(least) if cost == least && round == own.round => next < own.next,
-        Some(least) => is_not_after(cost, round, least, own.round),
+        Some(least) if cost == least && inner_nodes == own.inner_nodes => next < own.next,
+        Some(least) => is_not_after(cost, inner_nodes, least, own.inner_nodes),
     }
 }
 
@@ -196,15 +196,15 @@ fn improves(own: Cell, cost: i128, round: u32, next: u32) -> bool
 fn better(own: Cell, first: Option<i128>, beyond: Cell, u: u32) -> Option<Cell>
     requires first { ForSome first (λ a. IsAtMost a most_cost) }
     requires rest { ForSome beyond.cost (λ w. IsAtMost w most_walk_cost) }
-    requires counted { beyond.round < 2 ^ 31 }
+    requires counted { beyond.inner_nodes < 2 ^ 31 }
     ensures offered { IsOffered own first beyond u (unwrap_or result own) }
     ensures over { (new : Cell) → result ≡ Some new → GoesOver first beyond u new }
 {
-    let round = beyond.round + 1;
+    let inner_nodes = beyond.inner_nodes + 1;
     match extended(first, beyond.cost) {
-        Some(cost) if improves(own, cost, round, u) => Some(Cell {
+        Some(cost) if improves(own, cost, inner_nodes, u) => Some(Cell {
             cost: Some(cost),
-            round,
+            inner_nodes,
             next: u,
         }),
         _ => None,
@@ -249,11 +249,11 @@ fn go_on(
     requires few { count ≤ most_graph_nodes }
     requires first { ForSome first (λ a. IsAtMost a most_cost) }
     requires rest { ForSome beyond.cost (λ w. IsAtMost w most_walk_cost) }
-    requires counted { beyond.round < 2 ^ 31 }
+    requires counted { beyond.inner_nodes < 2 ^ 31 }
     requires room { ForSome (cell_at row.old v).cost (λ w. IsAtMost w (2 * most_walk_cost)) }
     requires ready { is_ready waits (cell_at row.old v) ≡ true
-        → (i : ℕ) × (i < count) × (node_at list.old i ≡ v) }
-    requires unready { is_ready waits (cell_at row.old v) ≡ false → (i : ℕ) → i < count → node_at list.old i ≢ v }
+        → (i : ℕ) × (i < count) × (node_in_list list.old i ≡ v) }
+    requires unready { is_ready waits (cell_at row.old v) ≡ false → (i : ℕ) → i < count → node_in_list list.old i ≢ v }
     requires queue { IsQueue labels.now row.old list.old places.old count }
     requires heap { IsHeap (IsBefore (label_in labels.now) (cell_at row.old)) list.old count }
     ensures own { IsOffered (cell_at row.old v) first beyond u (cell_at row.new v) }
@@ -305,7 +305,7 @@ fn offer<C: Costs>(
     requires shut { flag_at waits.now end ≡ false }
     requires settled { u < C.node_count costs.now }
     requires room { HasRoom (C.node_count costs.now) (cell_at row.old) }
-    requires counted { (cell_at row.old u).round < 2 ^ 31 }
+    requires counted { (cell_at row.old u).inner_nodes < 2 ^ 31 }
     requires queued { AreQueued (C.node_count costs.now) (flag_at waits.now) labels.now row.old list.old places.old
         count }
     ensures offered { AreOffered (C.node_count costs.now) (C.arc costs.now) end u (flag_at waits.now)

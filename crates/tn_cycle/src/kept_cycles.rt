@@ -7,7 +7,7 @@ ghost use Rattle.tn_base.specs.Walks.{KeepsArcs, KeepsArcsEntering, arcs_among, 
 ghost use Rattle.tn_base.specs.Widths.{most_cost};
 ghost use Rattle.tn_cycle.specs.Answers.{AnswersCycle, AnswersLeast, AreLabels, AreNear, arc_count, cost_of, label_in};
 ghost use Rattle.tn_cycle.specs.Cells.{HasRoom, cell_at};
-ghost use Rattle.tn_cycle.specs.Kept.{AreRaised, IsCycleRead, IsLifted, IsLiftedBy, IsRaised, KeepsArcsAvoiding, KeepsArcsOff, flag_at, signed};
+ghost use Rattle.tn_cycle.specs.Kept.{AreRaised, IsCycleRead, IsLifted, IsLiftedBy, IsRaised, KeepsArcsAvoiding, KeepsArcsOff, flag_at, negated_if};
 ghost use Rattle.tn_cycle.specs.Reading.{IsListable};
 ghost use Rattle.tn_cycle.specs.Widths.{label_step, most_graph_nodes, most_label, most_walk_cost};
 
@@ -168,9 +168,9 @@ fn lifted(least: Option<i128>, v: u32, node: u32, label: i128, cost: Option<i128
 }
 
 /// A label, or its negative.
-pub(crate) fn signed(label: i128, negates: bool) -> i128
+pub(crate) fn negated_if(label: i128, negates: bool) -> i128
     requires { IsAtMost label (3 * most_label) }
-    ensures { result ≡ signed negates label }
+    ensures { result ≡ negated_if negates label }
 {
     if negates { -label } else { label }
 }
@@ -181,13 +181,13 @@ fn least_number<C: Costs>(costs: &C, node: u32, labels: &[i128], negates: bool) 
     requires labels_sized { length labels.now ≡ C.node_count costs.now }
     requires inside { node < C.node_count costs.now }
     requires near { AreNear most_label labels.now }
-    ensures keeps { IsLifted (C.arc costs.now) node (λ v. signed negates (label_in labels.now v)) result }
+    ensures keeps { IsLifted (C.arc costs.now) node (λ v. negated_if negates (label_in labels.now v)) result }
     ensures near { (reach : ℕ) → AreNear reach labels.now → ForSome result (λ p. IsAtMost p (reach + most_cost)) }
 {
     let mut least = None;
     for k in 0..costs.successors(node) {
         let v = costs.successor(node, k);
-        let label = signed(labels[v as usize], negates);
+        let label = negated_if(labels[v as usize], negates);
         least = lifted(least, v, node, label, costs.cost(node, v));
     }
     least
@@ -205,7 +205,7 @@ fn node_label<C: Costs>(costs: &C, node: u32, labels: &[i128]) -> i128
 {
     match least_number(costs, node, labels, false) {
         Some(label) => label,
-        None => signed(
+        None => negated_if(
             least_number(&Turned { costs }, node, labels, true).unwrap_or(0),
             true,
         ),

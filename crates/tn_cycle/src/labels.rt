@@ -3,7 +3,7 @@
 ghost use Rattle.std.specs.Prelude.{◌≡◌, ℕ, ◌<◌, ◌≤◌, ◌^◌, ℤ, pos, ◌≤ℤ◌, ◌-ℤ◌, length, unwrap_or};
 ghost use Rattle.tn_base.specs.Arcs.{IsAtMost};
 ghost use Rattle.tn_cycle.specs.Cells.{HasRoom, cell_at};
-ghost use Rattle.tn_cycle.specs.Answers.{IsLowest, label_in};
+ghost use Rattle.tn_cycle.specs.Answers.{IsLowestCost, label_in};
 ghost use Rattle.tn_cycle.specs.Widths.{most_walk_cost};
 
 use crate::cell::Cell;
@@ -20,7 +20,7 @@ fn lesser(first: i128, second: i128) -> i128
 /// The lowest cost of the first cells, or 0 where none is below.
 pub(crate) fn lowest_cost(row: &[Cell], nodes: u32) -> i128
     requires { nodes ≤ length row.now }
-    ensures { IsLowest nodes (cell_at row.now) result }
+    ensures { IsLowestCost nodes (cell_at row.now) result }
 {
     let mut lowest = 0;
     for v in 0..nodes {

@@ -8,7 +8,7 @@ ghost use Rattle.std.specs.Prelude.{◌≡◌, ◌≢◌, ℕ, ◌+◌, ◌*◌,
 ghost use Rattle.tn_base.specs.Arcs.{IsAtMost};
 ghost use Rattle.tn_cycle.specs.Answers.{AreNear, label_in};
 ghost use Rattle.tn_cycle.specs.Cells.{cell_at};
-ghost use Rattle.tn_cycle.specs.Kept.{IsNotAfter, node_at};
+ghost use Rattle.tn_cycle.specs.Kept.{IsNotAfter, node_in_list};
 ghost use Rattle.tn_cycle.specs.Queue.{HasKey, HaveSameNodes, IsAbove, IsBefore, IsFirstBelow, IsHeap, IsHeapAbove, IsHeapBelow, IsQueue, key_of};
 ghost use Rattle.tn_cycle.specs.Widths.{most_graph_nodes, most_label, most_walk_cost};
 
@@ -33,11 +33,16 @@ pub(crate) fn key_at(labels: &[i128], row: &[Cell], v: u32) -> i128
 }
 
 /// Whether the first key isn't after the second: of keys that are the same, that of fewer arcs comes first.
-pub(crate) fn is_not_after(first: i128, first_round: u32, second: i128, second_round: u32) -> bool
-    ensures yes { result ≡ true → IsNotAfter first first_round second second_round }
-    ensures no { result ≡ false → IsNotAfter second second_round first first_round }
+pub(crate) fn is_not_after(
+    first: i128,
+    first_inner_nodes: u32,
+    second: i128,
+    second_inner_nodes: u32,
+) -> bool
+    ensures yes { result ≡ true → IsNotAfter first first_inner_nodes second second_inner_nodes }
+    ensures no { result ≡ false → IsNotAfter second second_inner_nodes first first_inner_nodes }
 {
-    first < second || first == second && first_round <= second_round
+    first < second || first == second && first_inner_nodes <= second_inner_nodes
 }
 
 /// Whether a node doesn't come after another one.
@@ -50,9 +55,9 @@ fn is_before(labels: &[i128], row: &[Cell], u: u32, v: u32) -> bool
 {
     is_not_after(
         key_at(labels, row, u),
-        row[u as usize].round,
+        row[u as usize].inner_nodes,
         key_at(labels, row, v),
-        row[v as usize].round,
+        row[v as usize].inner_nodes,
     )
 }
 
@@ -71,10 +76,10 @@ fn put(list: &mut [u32], places: &mut [u32], place: u32, v: u32)
 fn exchange(list: &mut [u32], places: &mut [u32], i: u32, k: u32)
     requires first { i < length list.old }
     requires second { k < length list.old }
-    requires first_spaced { node_at list.old i < length places.old }
-    requires second_spaced { node_at list.old k < length places.old }
-    ensures list { list.new ≡ set (set list.old i (node_at list.old k)) k (node_at list.old i) }
-    ensures places { places.new ≡ set (set places.old (node_at list.old k) i) (node_at list.old i) k }
+    requires first_spaced { node_in_list list.old i < length places.old }
+    requires second_spaced { node_in_list list.old k < length places.old }
+    ensures list { list.new ≡ set (set list.old i (node_in_list list.old k)) k (node_in_list list.old i) }
+    ensures places { places.new ≡ set (set places.old (node_in_list list.old k) i) (node_in_list list.old i) k }
 {
     let first = list[i as usize];
     let second = list[k as usize];
@@ -124,7 +129,7 @@ pub(crate) fn rise(
 fn first_below(labels: &[i128], row: &[Cell], list: &[u32], count: u32, at: u32) -> Option<u32>
     requires near { AreNear (2 * most_label) labels.now }
     requires room { count ≤ length list.now }
-    requires keyed { (i : ℕ) → i < count → HasKey labels.now row.now (node_at list.now i) }
+    requires keyed { (i : ℕ) → i < count → HasKey labels.now row.now (node_in_list list.now i) }
     requires few { count ≤ most_graph_nodes }
     requires inside { at < count }
     ensures some { (below : ℕ) → result ≡ Some below
@@ -183,7 +188,7 @@ pub(crate) fn push(
     requires queue { IsQueue labels.now row.now list.old places.old count }
     requires heap { IsHeap (IsBefore (label_in labels.now) (cell_at row.now)) list.old count }
     requires keyed { HasKey labels.now row.now v }
-    requires absent { (i : ℕ) → i < count → node_at list.old i ≢ v }
+    requires absent { (i : ℕ) → i < count → node_in_list list.old i ≢ v }
     ensures queue { IsQueue labels.now row.now list.new places.new (count + 1) }
     ensures heap { IsHeap (IsBefore (label_in labels.now) (cell_at row.now)) list.new (count + 1) }
     ensures same { HaveSameNodes (set list.old count v) list.new (count + 1) }
@@ -207,7 +212,7 @@ pub(crate) fn take_front(
     requires heap { IsHeap (IsBefore (label_in labels.now) (cell_at row.now)) list.old (left + 1) }
     ensures queue { IsQueue labels.now row.now list.new places.new left }
     ensures heap { IsHeap (IsBefore (label_in labels.now) (cell_at row.now)) list.new left }
-    ensures same { HaveSameNodes (set list.old 0 (node_at list.old left)) list.new left }
+    ensures same { HaveSameNodes (set list.old 0 (node_in_list list.old left)) list.new left }
 {
     let last = list[left as usize];
     put(list, places, 0, last);

@@ -13,9 +13,9 @@ pub(crate) fn list_way(row: &[Cell], v: u32, end: u32, path: &mut [u32]) -> u32
     requires short { length path.old ≤ 2 ^ 31 }
     requires listable { IsListable (length path.old) row.now v }
     ensures nodes { take (result + 1) path.new ≡ way end (cell_at row.now) v }
-    ensures arcs { result ≡ (cell_at row.now v).round + 1 }
+    ensures arcs { result ≡ (cell_at row.now v).inner_nodes + 1 }
 {
-    let count = row[v as usize].round;
+    let count = row[v as usize].inner_nodes;
     let mut at = v;
     for k in 0..count {
         path[k as usize] = at;
@@ -40,7 +40,7 @@ pub(crate) fn list_walk(row: &[Cell], v: u32, end: u32, turns: bool, path: &mut 
     requires short { length path.old ≤ 2 ^ 31 }
     requires listable { IsListable (length path.old) row.now v }
     ensures nodes { take result path.new ≡ walk_nodes turns end (cell_at row.now) v }
-    ensures count { result ≡ (cell_at row.now v).round + 2 }
+    ensures count { result ≡ (cell_at row.now v).inner_nodes + 2 }
 {
     let count = list_way(row, v, end, path) + 1;
     if turns {

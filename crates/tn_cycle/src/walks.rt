@@ -4,23 +4,23 @@ ghost use Rattle.std.specs.Prelude.{◌≡◌, ℕ, ◌^◌, ◌<◌, ◌≤◌,
 ghost use Rattle.tn_base.specs.Walks.{KeepsArcs};
 ghost use Rattle.tn_cycle.specs.Answers.{AreNear, label_in};
 ghost use Rattle.tn_cycle.specs.Cells.{cell_at};
-ghost use Rattle.tn_cycle.specs.Kept.{signed};
+ghost use Rattle.tn_cycle.specs.Kept.{negated_if};
 ghost use Rattle.tn_cycle.specs.Searched.{IsSettled};
 ghost use Rattle.tn_cycle.specs.Widths.{most_graph_nodes, most_label};
 
 use crate::cell::Cell;
 use crate::kept::{Sought, search_kept};
-use crate::kept_cycles::signed;
+use crate::kept_cycles::negated_if;
 use tn_base::Costs;
 
 /// Labels, or their negatives.
 pub(crate) fn sign(labels: &mut [i128], negates: bool)
     requires short { length labels.old < 2 ^ 31 }
     requires near { AreNear most_label labels.old }
-    ensures { (v : ℕ) → v < length labels.old → label_in labels.new v ≡ signed negates (label_in labels.old v) }
+    ensures { (v : ℕ) → v < length labels.old → label_in labels.new v ≡ negated_if negates (label_in labels.old v) }
 {
     for v in 0..labels.len() {
-        labels[v] = signed(labels[v], negates);
+        labels[v] = negated_if(labels[v], negates);
     }
 }
 

@@ -15,8 +15,8 @@ use Rattle.tn_market.specs.Reduced.{greater}
 use Rattle.tn_dealer.specs.declared.pair.Pair.{Pair}
 use Rattle.tn_dealer.specs.Pairs.{matched_worth, IsOwnPair}
 use Rattle.tn_dealer.specs.Certificates.{bound_of, KeepsPairs, KeepsAt, KeepsBeside, TakesAt, MayTake}
-use Rattle.tn_dealer.specs.Costs.{AreCosts, cost_at, far, place_of}
-use Rattle.tn_law.proofs.PairLemmas.{IsWorth}
+use Rattle.tn_dealer.specs.Costs.{AreCosts, cost_at, far, place_of_pair}
+use Rattle.tn_firm_laws.proofs.PairLemmas.{IsWorth}
 use Rattle.tn_dealer.specs.WorthLemmas.{AreOwnPairs, Paired, own_rest, matched_left, matched_right, matched_from, matched_none, matched_empty}
 use Rattle.tn_dealer.specs.WithinLemmas.{matched_within}
 use Rattle.tn_market.specs.Widths.{most_own, most_worth}
@@ -311,7 +311,7 @@ takes_pair pair here buy sell x cost next next_cost same_buy same_sell same_cost
 
 -- what the code takes in
 pub pair_taken : (costs : List ℤ) (buy sell place bundle next : ℕ) (cost here : ℤ) → buy < most_own → sell < most_own
-    → place ≡ place_of buy sell → here ≡ get_or costs place (pos 0) → SFits w32 (get_or costs place (pos 0))
+    → place ≡ place_of_pair buy sell → here ≡ get_or costs place (pos 0) → SFits w32 (get_or costs place (pos 0))
     → IsAtMost cost (most_own * most_amount) → get_or costs place (pos 0) <ℤ far
     → has bundle buy ≡ false → has bundle sell ≡ false → next ≡ toggle (toggle bundle buy) sell
     → MayTake costs bundle cost next

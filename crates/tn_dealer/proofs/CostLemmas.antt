@@ -6,19 +6,19 @@ use Rattle.std.proofs.lemmas.Bool.{cases_eq}
 use Rattle.std.proofs.lemmas.Option.{same_Some}
 use Rattle.std.proofs.lemmas.List.{length-replicate, length-set, get_or-replicate, get_or-set_same, get_or-set_other}
 use Rattle.tn_dealer.specs.declared.pair.Pair.{Pair}
-use Rattle.tn_dealer.specs.Pairs.{AreDifferent, IsNear}
-use Rattle.tn_dealer.specs.Costs.{AreCostsBelow, cost_at, far, place_of}
+use Rattle.tn_dealer.specs.Pairs.{AreUnrepeated, IsNear}
+use Rattle.tn_dealer.specs.Costs.{AreCostsBelow, cost_at, far, place_of_pair}
 use Rattle.tn_dealer.specs.WorthLemmas.{AreOwnPairs}
 use Rattle.tn_market.specs.Widths.{most_own}
 
-pub place_inside : (buy sell : ℕ) → buy < most_own → sell < most_own → place_of buy sell < most_own * most_own
+pub place_inside : (buy sell : ℕ) → buy < most_own → sell < most_own → place_of_pair buy sell < most_own * most_own
 place_inside buy sell p q = omega (arith, p, q)
 
 -- no two purchases and sales have one place
-one_buy : (b s b' s' : ℕ) → s < most_own → s' < most_own → place_of b s ≡ place_of b' s' → b ≡ b'
+one_buy : (b s b' s' : ℕ) → s < most_own → s' < most_own → place_of_pair b s ≡ place_of_pair b' s' → b ≡ b'
 one_buy b s b' s' p q e = omega (arith, p, q, e)
 
-one_sell : (b s b' s' : ℕ) → s < most_own → s' < most_own → place_of b s ≡ place_of b' s' → s ≡ s'
+one_sell : (b s b' s' : ℕ) → s < most_own → s' < most_own → place_of_pair b s ≡ place_of_pair b' s' → s ≡ s'
 one_sell b s b' s' p q e = omega (arith, p, q, e)
 
 pub costs_none : (pairs : List Pair) → AreCostsBelow pairs 0 (replicate (most_own * most_own) far)
@@ -27,7 +27,7 @@ costs_none pairs = record {
   each = λ k pair below. absurd (omega (arith, below));
   only = λ buy sell p q near.
       let is : cost_at (replicate (most_own * most_own) far) buy sell ≡ far =
-      get_or-replicate (most_own * most_own) (place_of buy sell) far (pos 0) (place_inside buy sell p q) in
+      get_or-replicate (most_own * most_own) (place_of_pair buy sell) far (pos 0) (place_inside buy sell p q) in
       absurd (omega (arith, ints, near, is));
 }
 
@@ -41,17 +41,17 @@ all_near count buys pairs few own j pair is =
     record { buy = omega (arith, few, p); sell = omega (arith, few, q) }
 
 -- with one more pair
-pub costs_more : (pairs : List Pair) (k : ℕ) (pair : Pair) (costs : List ℤ) → AreDifferent pairs
+pub costs_more : (pairs : List Pair) (k : ℕ) (pair : Pair) (costs : List ℤ) → AreUnrepeated pairs
     → slice_get pairs k ≡ Some pair
     → ((j : ℕ) (next : Pair) → slice_get pairs j ≡ Some next → IsNear next) → AreCostsBelow pairs k costs
-    → AreCostsBelow pairs (k + 1) (set costs (place_of pair.buy pair.sell) pair.cost)
+    → AreCostsBelow pairs (k + 1) (set costs (place_of_pair pair.buy pair.sell) pair.cost)
 costs_more pairs k pair costs different is near before = record {
-  counted = length-set costs (place_of pair.buy pair.sell) pair.cost ∙ before.counted;
+  counted = length-set costs (place_of_pair pair.buy pair.sell) pair.cost ∙ before.counted;
   each = λ j next below next_is. elim (cases_eq j k) [
     | inl e ↦
         let same : pair ≡ next = same_Some pair next (sym is ∙ ap (slice_get pairs) (sym e) ∙ next_is) in
-        subst (λ p. cost_at (set costs (place_of pair.buy pair.sell) pair.cost) p.buy p.sell ≡ p.cost) same (there)
-    | inr d ↦ elim (cases_eq (place_of next.buy next.sell) (place_of pair.buy pair.sell)) [
+        subst (λ p. cost_at (set costs (place_of_pair pair.buy pair.sell) pair.cost) p.buy p.sell ≡ p.cost) same (there)
+    | inr d ↦ elim (cases_eq (place_of_pair next.buy next.sell) (place_of_pair pair.buy pair.sell)) [
       | inl e ↦ absurd (different k (record {
         at = j;
         earlier = next;
@@ -65,7 +65,7 @@ costs_more pairs k pair costs different is near before = record {
       | inr apart ↦ elsewhere next.buy next.sell apart ∙ before.each j next (omega (arith, below, d)) next_is
     ]
   ];
-  only = λ buy sell p q low. elim (cases_eq (place_of buy sell) (place_of pair.buy pair.sell)) [
+  only = λ buy sell p q low. elim (cases_eq (place_of_pair buy sell) (place_of_pair pair.buy pair.sell)) [
     | inl e ↦ record {
       at = k;
       before = omega arith;
@@ -73,7 +73,7 @@ costs_more pairs k pair costs different is near before = record {
       is = is;
       same_buy = sym (one_buy buy sell pair.buy pair.sell q (near k pair is).sell e);
       same_sell = sym (one_sell buy sell pair.buy pair.sell q (near k pair is).sell e);
-      same_cost = sym (ap (λ (n : ℕ). get_or (set costs (place_of pair.buy pair.sell) pair.cost) n (pos 0)) e ∙ there);
+      same_cost = sym (ap (λ (n : ℕ). get_or (set costs (place_of_pair pair.buy pair.sell) pair.cost) n (pos 0)) e ∙ there);
     }
     | inr apart ↦
         let listed = before.only buy sell p q (subst (λ (z : ℤ). z <ℤ far) (elsewhere buy sell apart) low) in
@@ -90,12 +90,12 @@ costs_more pairs k pair costs different is near before = record {
   ];
 }
   where
-    there : cost_at (set costs (place_of pair.buy pair.sell) pair.cost) pair.buy pair.sell ≡ pair.cost
-    there = get_or-set_same costs (place_of pair.buy pair.sell) pair.cost (pos 0)
+    there : cost_at (set costs (place_of_pair pair.buy pair.sell) pair.cost) pair.buy pair.sell ≡ pair.cost
+    there = get_or-set_same costs (place_of_pair pair.buy pair.sell) pair.cost (pos 0)
         (let inside = place_inside pair.buy pair.sell (near k pair is).buy (near k pair is).sell in let long =
         before.counted in omega (arith, inside, long))
 
-    elsewhere : (buy sell : ℕ) → place_of buy sell ≢ place_of pair.buy pair.sell
-        → cost_at (set costs (place_of pair.buy pair.sell) pair.cost) buy sell ≡ cost_at costs buy sell
+    elsewhere : (buy sell : ℕ) → place_of_pair buy sell ≢ place_of_pair pair.buy pair.sell
+        → cost_at (set costs (place_of_pair pair.buy pair.sell) pair.cost) buy sell ≡ cost_at costs buy sell
     elsewhere buy sell apart =
-        get_or-set_other costs (place_of pair.buy pair.sell) (place_of buy sell) pair.cost (pos 0) apart
+        get_or-set_other costs (place_of_pair pair.buy pair.sell) (place_of_pair buy sell) pair.cost (pos 0) apart

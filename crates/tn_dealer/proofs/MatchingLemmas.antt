@@ -8,9 +8,9 @@ use Rattle.tn_base.specs.Table.{buys_of}
 use Rattle.tn_base.proofs.SetLemmas.{same_set, has-zero, has-toggle_same, has-toggle_other}
 use Rattle.tn_dealer.specs.declared.pair.Pair.{Pair}
 use Rattle.tn_dealer.specs.Pairs.{matched_worth, IsOwnPair}
-use Rattle.tn_dealer.specs.Matchings.{Joins, Matches, IsMatching, cost_of, IsWorthOfLeast}
+use Rattle.tn_dealer.specs.Matchings.{Joins, Matches, IsMatching, matching_cost, IsWorthOfLeast}
 use Rattle.tn_dealer.specs.MatchingLaw.{DealersMatch}
-use Rattle.tn_law.proofs.PairLemmas.{IsWorth}
+use Rattle.tn_firm_laws.proofs.PairLemmas.{IsWorth}
 use Rattle.tn_dealer.specs.WorthLemmas.{AreOwnPairs, own_pairs, own_rest, matched_left, matched_right, matched_from, matched_none, matched_empty}
 
 -- the chosen places of a list with one pair more in front
@@ -138,8 +138,8 @@ empty_of x chosen matching = same_set x 0 (λ k. elim (cases_Bool (has x k)) [
 -- a bundle with a matching is worth at least minus its cost
 pub matching_worth : (count buys : ℕ) (pairs : List Pair) → AreOwnPairs count buys pairs → (x : ℕ) (chosen : ℕ → Bool)
     → IsMatching pairs x chosen
-    → IsWorth (matched_worth pairs) x (neg_ℤ (cost_of pairs chosen))
-unfolding cost_of
+    → IsWorth (matched_worth pairs) x (neg_ℤ (matching_cost pairs chosen))
+unfolding matching_cost
 matching_worth count buys [] own x chosen matching = record {
   value = pos 0;
   is = ap (matched_worth []) (empty_of x chosen matching) ∙ matched_empty [];
@@ -237,10 +237,10 @@ no_pairs = record {
 pub record Attained (pairs : List Pair) (x : ℕ) (a : ℤ) : Type 0 where
   pub chosen : ℕ → Bool
   pub matching : IsMatching pairs x chosen
-  pub cost : a ≡ neg_ℤ (cost_of pairs chosen)
+  pub cost : a ≡ neg_ℤ (matching_cost pairs chosen)
 
 attained_without : (pair : Pair) (pairs : List Pair) (x : ℕ) (a : ℤ) → Attained pairs x a → Attained (pair ∷ pairs) x a
-unfolding cost_of
+unfolding matching_cost
 attained_without pair pairs x a rest = record {
   chosen = with_first false rest.chosen;
   matching = more_without pair pairs x rest.chosen rest.matching;
@@ -249,7 +249,7 @@ attained_without pair pairs x a rest = record {
 
 attained_with : (pair : Pair) (pairs : List Pair) (x : ℕ) (a v : ℤ) → HasBoth pair x → a -ℤ pair.cost ≡ v
     → Attained pairs (left pair x) a → Attained (pair ∷ pairs) x v
-unfolding cost_of
+unfolding matching_cost
 attained_with pair pairs x a v both less rest = record {
   chosen = with_first true rest.chosen;
   matching = more_with pair pairs x rest.chosen both rest.matching;
@@ -257,7 +257,7 @@ attained_with pair pairs x a v both less rest = record {
 }
 
 attained_none : (x : ℕ) (a : ℤ) → matched_worth [] x ≡ Some a → Attained [] x a
-unfolding cost_of
+unfolding matching_cost
 attained_none x a is =
     let empty = matched_none x a is in
     record {

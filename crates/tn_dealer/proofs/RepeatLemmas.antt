@@ -9,7 +9,7 @@ use Rattle.tn_base.specs.Sets.{has, toggle, size}
 use Rattle.tn_base.proofs.SetLemmas.{has-zero, has-toggle_other, toggle_within}
 use Rattle.tn_base.proofs.SizeLemmas.{size-toggle_in, size-zero, size_le}
 use Rattle.tn_dealer.specs.declared.pair.Pair.{Pair}
-use Rattle.tn_dealer.specs.Pairs.{IsNear, AreDifferentBelow, AreDifferent}
+use Rattle.tn_dealer.specs.Pairs.{IsNear, AreDifferentBelow, AreUnrepeated}
 use Rattle.tn_market.specs.Widths.{most_own}
 
 -- ---- numbers below n of which no two are equal are at most n
@@ -107,7 +107,7 @@ few_different pairs k within near different = few_numbers (number_of pairs) (mos
           same_sell = same.1;
         })
 
-pub different_all : (pairs : List Pair) (k : ℕ) → length pairs ≤ k → AreDifferentBelow pairs k → AreDifferent pairs
+pub different_all : (pairs : List Pair) (k : ℕ) → length pairs ≤ k → AreDifferentBelow pairs k → AreUnrepeated pairs
 different_all pairs k end before j repeated =
     let inside = slice_get_within pairs j repeated.pair repeated.pair_is in
     before j (omega (arith, inside, end)) repeated

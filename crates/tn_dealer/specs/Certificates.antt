@@ -6,8 +6,8 @@ use Rattle.tn_dealer.specs.Costs.{cost_at, far}
 use Rattle.tn_market.specs.Widths.{most_own}
 
 -- the number of a position
-abbrev pub number_at : List ℤ → ℕ → ℤ
-number_at numbers k = get_or numbers k (pos 0)
+abbrev pub own_number : List ℤ → ℕ → ℤ
+own_number numbers k = get_or numbers k (pos 0)
 
 -- what the numbers of a pair's two trades may sum to: its cost, or 0
 abbrev pub bound_of : Bool → Pair → ℤ

@@ -4,8 +4,8 @@ use Rattle.tn_dealer.specs.declared.pair.Pair.{Pair}
 use Rattle.tn_market.specs.Widths.{most_own}
 
 -- where the cost of a purchase and a sale stands
-abbrev pub place_of : ℕ → ℕ → ℕ
-place_of buy sell = buy * most_own + sell
+abbrev pub place_of_pair : ℕ → ℕ → ℕ
+place_of_pair buy sell = buy * most_own + sell
 
 -- what stands where no pair is listed
 abbrev pub far : ℤ
@@ -13,7 +13,7 @@ far = pos 2147483647
 
 -- the cost that stands at the place of a purchase and a sale
 abbrev pub cost_at : List ℤ → ℕ → ℕ → ℤ
-cost_at costs buy sell = get_or costs (place_of buy sell) (pos 0)
+cost_at costs buy sell = get_or costs (place_of_pair buy sell) (pos 0)
 
 -- one of the first n pairs has this purchase, this sale and this cost
 pub record IsListed (pairs : List Pair) (n buy sell : ℕ) (cost : ℤ) : Type 0 where

@@ -21,17 +21,18 @@ pub record IsMatching (pairs : List Pair) (x : ℕ) (chosen : ℕ → Bool) : Ty
   pub once : (j k t : ℕ) → Matches pairs chosen j t → Matches pairs chosen k t → j ≡ k
 
 -- the sum of the costs of the chosen pairs
-unfoldable pub cost_of : List Pair → (ℕ → Bool) → ℤ
-cost_of [] chosen = pos 0
-cost_of (pair ∷ pairs) chosen = (if chosen 0 then pair.cost else pos 0) +ℤ cost_of pairs (λ k. chosen (suc k))
+unfoldable pub matching_cost : List Pair → (ℕ → Bool) → ℤ
+matching_cost [] chosen = pos 0
+matching_cost (pair ∷ pairs) chosen =
+    (if chosen 0 then pair.cost else pos 0) +ℤ matching_cost pairs (λ k. chosen (suc k))
 
 -- a matching of x, of which none costs less
 pub record IsLeastMatching (pairs : List Pair) (x : ℕ) (chosen : ℕ → Bool) : Type 0 where
   pub matching : IsMatching pairs x chosen
-  pub least : (other : ℕ → Bool) → IsMatching pairs x other → cost_of pairs chosen ≤ℤ cost_of pairs other
+  pub least : (other : ℕ → Bool) → IsMatching pairs x other → matching_cost pairs chosen ≤ℤ matching_cost pairs other
 
 -- a bundle's worth is minus the cost of a least matching, none where it has no matching
 abbrev pub IsWorthOfLeast : List Pair → ℕ → Option ℤ → Type 0
 IsWorthOfLeast pairs x (Some a) = (chosen : ℕ → Bool) × IsLeastMatching pairs x chosen
-    × (a ≡ neg_ℤ (cost_of pairs chosen))
+    × (a ≡ neg_ℤ (matching_cost pairs chosen))
 IsWorthOfLeast pairs x None = (chosen : ℕ → Bool) → IsMatching pairs x chosen → ⊥

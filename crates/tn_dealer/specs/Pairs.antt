@@ -53,8 +53,8 @@ abbrev pub AreDifferentBelow : List Pair → ℕ → Type 0
 AreDifferentBelow pairs k = (j : ℕ) → j < k → IsRepeated pairs j → ⊥
 
 -- no two pairs have the same purchase and the same sale
-abbrev pub AreDifferent : List Pair → Type 0
-AreDifferent pairs = (j : ℕ) → IsRepeated pairs j → ⊥
+abbrev pub AreUnrepeated : List Pair → Type 0
+AreUnrepeated pairs = (j : ℕ) → IsRepeated pairs j → ⊥
 
 -- the first place whose pair is repeated
 pub record IsFirstRepeated (pairs : List Pair) (k : ℕ) : Type 0 where
@@ -63,7 +63,7 @@ pub record IsFirstRepeated (pairs : List Pair) (k : ℕ) : Type 0 where
 
 -- the first place whose pair is repeated, or none
 abbrev pub GivesFirstRepeated : List Pair → Option ℕ → Type 0
-GivesFirstRepeated pairs None = AreDifferent pairs
+GivesFirstRepeated pairs None = AreUnrepeated pairs
 GivesFirstRepeated pairs (Some k) = IsFirstRepeated pairs k
 
 -- both positions are below 60

@@ -10,16 +10,16 @@ use Rattle.tn_base.specs.Sets.{has, toggle}
 use Rattle.tn_base.specs.Firm.{HasOwnBundles}
 use Rattle.tn_base.specs.Exchange.{MeetsExchange}
 use Rattle.tn_base.proofs.SetLemmas.{has-zero}
-use Rattle.tn_law.specs.Places.{level, move, ExchangesOverPlaces}
-use Rattle.tn_law.proofs.PlaceLemmas.{move-both}
-use Rattle.tn_law.proofs.AdditiveLemmas.{move-within}
-use Rattle.tn_law.proofs.ExchangeLemmas.{exchange_from_places}
+use Rattle.tn_firm_laws.specs.Places.{level, move, ExchangesOverPlaces}
+use Rattle.tn_firm_laws.proofs.PlaceLemmas.{move-both}
+use Rattle.tn_firm_laws.proofs.AdditiveLemmas.{move-within}
+use Rattle.tn_firm_laws.proofs.ExchangeLemmas.{exchange_from_places}
 use Rattle.tn_market.specs.Reduced.{greater}
 use Rattle.tn_dealer.specs.declared.pair.Pair.{Pair}
 use Rattle.tn_dealer.specs.Pairs.{with_pair, matched_worth, dealing, IsOwnPair}
-use Rattle.tn_law.proofs.MoveLemmas.{move-twice}
-use Rattle.tn_law.proofs.PairLemmas.{IsWorth, Swaps, HasOneMore}
-use Rattle.tn_law.proofs.PairSideLemmas.{Above, ArePaired, HasPair, one_more_swaps}
+use Rattle.tn_firm_laws.proofs.MoveLemmas.{move-twice}
+use Rattle.tn_firm_laws.proofs.PairLemmas.{IsWorth, Swaps, HasOneMore}
+use Rattle.tn_firm_laws.proofs.PairSideLemmas.{Above, ArePaired, HasPair, one_more_swaps}
 
 -- the pair at each place is one of own trades
 abbrev pub AreOwnPairs : ℕ → ℕ → List Pair → Type 0

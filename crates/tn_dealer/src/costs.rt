@@ -3,7 +3,7 @@
 ghost use Rattle.std.specs.Prelude.{◌≡◌, ◌*◌, ◌+◌, ◌<◌};
 ghost use Rattle.tn_base.specs.Arcs.{IsAtMost};
 ghost use Rattle.tn_base.specs.Widths.{most_amount};
-ghost use Rattle.tn_dealer.specs.Costs.{AreCosts, place_of};
+ghost use Rattle.tn_dealer.specs.Costs.{AreCosts, place_of_pair};
 ghost use Rattle.tn_market.specs.Widths.{most_own};
 
 use crate::dealer::Dealer;
@@ -23,7 +23,7 @@ pub(crate) const UNLISTED: i32 = i32::MAX;
 pub(crate) fn place(buy: usize, sell: usize) -> usize
     requires buy { buy < most_own }
     requires sell { sell < most_own }
-    ensures place { result ≡ place_of buy sell }
+    ensures place { result ≡ place_of_pair buy sell }
     ensures inside { result < most_own * most_own }
 {
     buy * POSITIONS + sell

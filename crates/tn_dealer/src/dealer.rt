@@ -2,7 +2,7 @@
 
 ghost use Rattle.std.specs.Prelude.{◌≡◌, ◌≤◌, length, All, IfOk, IfErr};
 ghost use Rattle.tn_base.specs.Table.{buys_of};
-ghost use Rattle.tn_dealer.specs.Pairs.{AreDifferent, IsDealer, IsFirstRepeated, IsOwnPair, dealer_firm};
+ghost use Rattle.tn_dealer.specs.Pairs.{AreUnrepeated, IsDealer, IsFirstRepeated, IsOwnPair, dealer_firm};
 ghost use Rattle.tn_market.specs.Widths.{most_own};
 
 use crate::pair::{Pair, SamePair};
@@ -18,7 +18,7 @@ pub struct Dealer {
     pub(crate) buys: Bundle,
     pub(crate) pairs: Vec<Pair>,
     ghost dealer: { IsDealer trades buys pairs.items },
-    ghost different: { AreDifferent pairs.items },
+    ghost different: { AreUnrepeated pairs.items },
 }
 
 impl Dealer {
@@ -32,7 +32,7 @@ impl Dealer {
         requires few { length sides.items ≤ most_own }
         requires own { All (IsOwnPair (length sides.items) (buys_of sides.items)) pairs.items }
         ensures firm { IfOk result (λ dealer. firm_of dealer ≡ dealer_firm sides.items pairs.items) }
-        ensures different { IfOk result (λ dealer. AreDifferent pairs.items) }
+        ensures different { IfOk result (λ dealer. AreUnrepeated pairs.items) }
         ensures refused { IfErr result (λ same. IsFirstRepeated pairs.items same.index) }
     {
         match first_repeated(&pairs) {
@@ -45,7 +45,7 @@ impl Dealer {
     pub fn of_different(sides: Vec<Side>, pairs: Vec<Pair>) -> Dealer
         requires few { length sides.items ≤ most_own }
         requires own { All (IsOwnPair (length sides.items) (buys_of sides.items)) pairs.items }
-        requires different { AreDifferent pairs.items }
+        requires different { AreUnrepeated pairs.items }
         ensures { firm_of result ≡ dealer_firm sides.items pairs.items }
     {
         Dealer {

@@ -2,7 +2,7 @@
 //! What each bundle is worth to one stands in `specs/`.
 #![tactic(auto)]
 
-mod asked;
+mod as_valuation;
 mod costs;
 mod dealer;
 mod laws;

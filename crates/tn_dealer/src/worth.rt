@@ -6,9 +6,9 @@ ghost use Rattle.tn_base.specs.Arcs.{IsAtMost};
 ghost use Rattle.tn_base.specs.Sets.{has, sum_over, toggle};
 ghost use Rattle.tn_market.specs.Reduced.{greater};
 ghost use Rattle.tn_dealer.specs.Pairs.{matched_worth};
-ghost use Rattle.tn_dealer.specs.Certificates.{number_at, KeepsAt, KeepsBeside, KeepsPairs, MayTake};
+ghost use Rattle.tn_dealer.specs.Certificates.{own_number, KeepsAt, KeepsBeside, KeepsPairs, MayTake};
 ghost use Rattle.tn_dealer.specs.Costs.{AreCosts, far};
-ghost use Rattle.tn_law.proofs.PairLemmas.{IsWorth};
+ghost use Rattle.tn_firm_laws.proofs.PairLemmas.{IsWorth};
 ghost use Rattle.tn_base.specs.Widths.{most_amount};
 ghost use Rattle.tn_market.specs.Widths.{most_worth, most_own};
 
@@ -80,7 +80,7 @@ impl Dealer {
         priced: bool,
     ) -> bool
         requires costs { AreCosts self.now.pairs.items costs.now }
-        ensures { result ≡ true → KeepsPairs priced (number_at numbers.now) x self.now.pairs.items }
+        ensures { result ≡ true → KeepsPairs priced (own_number numbers.now) x self.now.pairs.items }
     {
         let purchases = x.meet(self.buys);
         let sales = x.minus(self.buys);
@@ -130,7 +130,7 @@ impl Dealer {
 /// The sum of the numbers of a bundle's positions, of so many trades.
 fn sum(x: Bundle, trades: usize, numbers: &[i64; POSITIONS]) -> i128
     requires few { trades ≤ most_own }
-    ensures sum { result ≡ sum_over (number_at numbers.now) trades x }
+    ensures sum { result ≡ sum_over (own_number numbers.now) trades x }
     ensures small { IsAtMost result (most_own * 2 ^ 63) }
 {
     let mut total = 0;
@@ -143,7 +143,7 @@ fn sum(x: Bundle, trades: usize, numbers: &[i64; POSITIONS]) -> i128
 /// The number of a position that is in the bundle, else 0.
 fn number_in(x: Bundle, numbers: &[i64; POSITIONS], k: usize) -> i128
     requires { k < most_own }
-    ensures term { result ≡ (if has x k then number_at numbers.now k else pos 0) }
+    ensures term { result ≡ (if has x k then own_number numbers.now k else pos 0) }
     ensures small { IsAtMost result (2 ^ 63) }
 {
     if x.has(k as u32) {
@@ -167,7 +167,7 @@ fn keeps_beside(
     requires few { trades ≤ most_own }
     requires own { buy < trades }
     ensures { result ≡ true → has purchases buy ≡ true
-        → KeepsBeside priced costs.now (number_at numbers.now) sales buy trades }
+        → KeepsBeside priced costs.now (own_number numbers.now) sales buy trades }
 {
     if !purchases.has(buy as u32) {
         return true;
@@ -192,7 +192,7 @@ fn breaks(
 ) -> bool
     requires buy { buy < most_own }
     requires sell { sell < most_own }
-    ensures { result ≡ false → KeepsAt priced costs.now (number_at numbers.now) sales buy sell }
+    ensures { result ≡ false → KeepsAt priced costs.now (own_number numbers.now) sales buy sell }
 {
     if !sales.has(sell as u32) {
         return false;

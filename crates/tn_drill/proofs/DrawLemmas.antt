@@ -5,7 +5,7 @@ use Rattle.std.proofs.lemmas.Nat.{mod_below}
 use Rattle.std.proofs.lemmas.List.Elements.{All-nil, All-cons, All-append}
 use Rattle.std.proofs.lemmas.List.FromFn.{map-range_with_len_more}
 use Rattle.tn_drill.specs.Draws.{most_drilled, IsWithin, drawn, number_below, state_after}
-use Rattle.tn_drill.specs.Drill.{draws_of, ends_after, trades_of}
+use Rattle.tn_drill.specs.Drill.{drawn_ends, draws_of, ends_after}
 
 pub drawn_within : (start i : ℕ) → i < most_drilled → IsWithin (drawn start i)
 drawn_within start i below = record {
@@ -23,15 +23,15 @@ drawn_within start i below = record {
 pub draws_more : (start size : ℕ) → draws_of start (size + 1) ≡ draws_of start size ++ drawn start size ∷ []
 draws_more start size = map-range_with_len_more (drawn start) 0 size size (omega arith)
 
-pub trades_more : (start size : ℕ) → trades_of start (size + 1) ≡ trades_of start size
-    ++ ends_after (trades_of start size) (drawn start size) ∷ []
-trades_more start size = ap (trades_of start) (add-one size)
+pub trades_more : (start size : ℕ) → drawn_ends start (size + 1) ≡ drawn_ends start size
+    ++ ends_after (drawn_ends start size) (drawn start size) ∷ []
+trades_more start size = ap (drawn_ends start) (add-one size)
 
-pub trades_counted : (start size : ℕ) → length (trades_of start size) ≡ size
+pub trades_counted : (start size : ℕ) → length (drawn_ends start size) ≡ size
 trades_counted start zero = refl
 trades_counted start (suc size) =
     let before = trades_counted start size in
-    let more = length-append (trades_of start size) (ends_after (trades_of start size) (drawn start size) ∷ []) in
+    let more = length-append (drawn_ends start size) (ends_after (drawn_ends start size) (drawn start size) ∷ []) in
     omega (arith, before, more)
 
 pub draws_within : (start size : ℕ) → size ≤ most_drilled → All IsWithin (draws_of start size)

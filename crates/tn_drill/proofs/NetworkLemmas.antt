@@ -13,15 +13,15 @@ use Rattle.tn_base.specs.Firm.{Firm}
 use Rattle.tn_base.specs.Table.{buys_of}
 use Rattle.tn_base.specs.declared.side.Side.{Side}
 use Rattle.tn_base.specs.declared.side.Side.TheVariants.{Buy, Sell}
-use Rattle.tn_plain_data.specs.declared.ends.Ends.{Ends}
-use Rattle.tn_plain_data.specs.Network.{IsNetwork}
+use Rattle.tn_model.specs.declared.ends.Ends.{Ends}
+use Rattle.tn_model.specs.Network.{IsNetwork}
 use Rattle.tn_middle.specs.Pairs.{middle_firm}
-use Rattle.tn_plain_data.specs.InOrder.{side_in, sides_of, ComesNext, AreInOrder}
-use Rattle.tn_plain_data.proofs.InOrderLemmas.{AreInOrder-push, sides_of-none}
-use Rattle.tn_plain_data.proofs.InOrderNetworks.{network}
+use Rattle.tn_model.specs.InOrder.{side_in, sides_of, ComesNext, AreInOrder}
+use Rattle.tn_model.proofs.InOrderLemmas.{AreInOrder-push, sides_of-none}
+use Rattle.tn_model.proofs.InOrderNetworks.{network}
 use Rattle.tn_drill.specs.declared.draws.Drawn.{Drawn}
 use Rattle.tn_drill.specs.Draws.{most_drilled, IsWithin, drawn}
-use Rattle.tn_drill.specs.Drill.{AreOwn, buyer_of, consumer, draws_of, ends_after, firm_by, firm_in, firms_of, middleman_of, number_to, producer, seller_of, trades_of}
+use Rattle.tn_drill.specs.Drill.{HasSmallNumbers, buyer_of, consumer, drawn_ends, drawn_firm, draws_of, ends_after, firm_in, firms_of, middleman_of, number_to, producer, seller_of}
 use Rattle.tn_drill.proofs.DrawLemmas.{drawn_within, draws_more}
 use Rattle.tn_base.specs.Widths.{most_amount}
 use Rattle.tn_market.specs.Widths.{most_own}
@@ -92,11 +92,11 @@ comes_next before draw =
       at_buyer = refl;
     }
 
-pub in_order : (start size : ℕ) → AreInOrder 16 (trades_of start size)
+pub in_order : (start size : ℕ) → AreInOrder 16 (drawn_ends start size)
 in_order start zero = λ t trade is. absurd (let within = slice_get_within [] t trade is in omega (arith, within))
 in_order start (suc size) =
-    AreInOrder-push 16 (trades_of start size) (ends_after (trades_of start size) (drawn start size))
-    (in_order start size) (comes_next (trades_of start size) (drawn start size))
+    AreInOrder-push 16 (drawn_ends start size) (ends_after (drawn_ends start size) (drawn start size))
+    (in_order start size) (comes_next (drawn_ends start size) (drawn start size))
 
 -- ---- the trades of a firm
 
@@ -160,11 +160,11 @@ few_at (suc n) f below is =
     ]
 
 -- one trade more
-sides_more : (start size f : ℕ) → sides_of (trades_of start (suc size)) f ≡ sides_of (trades_of start size) f
-    ++ cons_option (side_in f (ends_after (trades_of start size) (drawn start size))) []
+sides_more : (start size f : ℕ) → sides_of (drawn_ends start (suc size)) f ≡ sides_of (drawn_ends start size) f
+    ++ cons_option (side_in f (ends_after (drawn_ends start size) (drawn start size))) []
 unfolding sides_of
 sides_more start size f =
-    filter_map-append (side_in f) (trades_of start size) (ends_after (trades_of start size) (drawn start size) ∷ [])
+    filter_map-append (side_in f) (drawn_ends start size) (ends_after (drawn_ends start size) (drawn start size) ∷ [])
 
 numbers_more : (start size f : ℕ) → filter_map (number_to f) (draws_of start (suc size))
     ≡ filter_map (number_to f) (draws_of start size) ++ cons_option (number_to f (drawn start size)) []
@@ -191,14 +191,14 @@ number_counted f draw = by (seller_of draw == f) (buyer_of draw == f) _ _
     by false true x y = refl
     by false false x y = refl
 
-few_sides : (start size f : ℕ) → length (sides_of (trades_of start size) f) ≤ tally (may_join f) size
+few_sides : (start size f : ℕ) → length (sides_of (drawn_ends start size) f) ≤ tally (may_join f) size
 few_sides start zero f = let none = ap length (sides_of-none f) in omega (arith, none)
 few_sides start (suc size) f =
     let before = few_sides start size f in
     let more = ap length (sides_more start size f) in
-    let sum = length-append (sides_of (trades_of start size) f)
-    (cons_option (side_in f (ends_after (trades_of start size) (drawn start size))) []) in
-    let one = side_counted f (trades_of start size) (drawn start size) in
+    let sum = length-append (sides_of (drawn_ends start size) f)
+    (cons_option (side_in f (ends_after (drawn_ends start size) (drawn start size))) []) in
+    let one = side_counted f (drawn_ends start size) (drawn start size) in
     let less = by (joins f (drawn start size)) (may_join f size) (joins-may f start size) in
     omega (arith, before, more, sum, one, less)
   where
@@ -207,14 +207,14 @@ few_sides start (suc size) f =
     by false b h = omega arith
 
 same_count : (start size f : ℕ) → length (filter_map (number_to f) (draws_of start size))
-    ≡ length (sides_of (trades_of start size) f)
+    ≡ length (sides_of (drawn_ends start size) f)
 same_count start zero f = sym (ap length (sides_of-none f))
 same_count start (suc size) f =
     let before = same_count start size f in
-    let sides = ap length (sides_more start size f) ∙ length-append (sides_of (trades_of start size) f) _ in
+    let sides = ap length (sides_more start size f) ∙ length-append (sides_of (drawn_ends start size) f) _ in
     let numbers = ap length (numbers_more start size f)
     ∙ length-append (filter_map (number_to f) (draws_of start size)) _ in
-    let one = side_counted f (trades_of start size) (drawn start size) in
+    let one = side_counted f (drawn_ends start size) (drawn start size) in
     let other = number_counted f (drawn start size) in
     omega (arith, before, sides, numbers, one, other)
 
@@ -254,7 +254,7 @@ all_small start (suc size) f few =
     (cons_option (number_to f (drawn start size)) []) (all_small start size f (omega (arith, few)))
     (number_small f (drawn start size) (drawn_within start size (omega (arith, few)))))
 
-pub own_of : (start size f : ℕ) → size ≤ most_drilled → f < 16 → AreOwn (trades_of start size) (draws_of start size) f
+pub own_of : (start size f : ℕ) → size ≤ most_drilled → f < 16 → HasSmallNumbers (drawn_ends start size) (draws_of start size) f
 own_of start size f few below =
     let sides = few_sides start size f in
     let grows = tally-grows (may_join f) size most_drilled few in
@@ -269,16 +269,16 @@ own_of start size f few below =
 -- ---- the network
 
 firm_at : (start size f : ℕ) (firm : Firm) → slice_get (firms_of start size) f ≡ Some firm
-    → firm ≡ firm_in (trades_of start size) (draws_of start size) f
+    → firm ≡ firm_in (drawn_ends start size) (draws_of start size) f
 firm_at start size f firm is =
-    let at = firm_in (trades_of start size) (draws_of start size) in
+    let at = firm_in (drawn_ends start size) (draws_of start size) in
     let counted = length-map-range_with_len at 0 16 in
     let within = slice_get_within (firms_of start size) f firm is in
     sym (get_or_from_slice_get (firms_of start size) f firm firm is)
     ∙ get_or-map-range_with_len at 0 16 f f firm (omega (arith, counted, within)) (omega arith)
 
-sided : (f : ℕ) (sides : List Side) (numbers : List ℤ) → ((firm_by f sides numbers).count ≡ length sides)
-    × ((firm_by f sides numbers).buys ≡ buys_of sides)
+sided : (f : ℕ) (sides : List Side) (numbers : List ℤ) → ((drawn_firm f sides numbers).count ≡ length sides)
+    × ((drawn_firm f sides numbers).buys ≡ buys_of sides)
 sided f sides numbers =
     by (nat_lt f 4) (nat_lt f 12) (producer sides numbers) (middle_firm sides numbers None) (consumer sides numbers)
     (refl, refl) (refl, refl) (refl, refl)
@@ -291,18 +291,18 @@ sided f sides numbers =
     by false true x y z first second third = second
     by false false x y z first second third = third
 
-pub drill_network : (start size : ℕ) → IsNetwork (firms_of start size) (trades_of start size)
+pub drill_network : (start size : ℕ) → IsNetwork (firms_of start size) (drawn_ends start size)
 drill_network start size =
-    network (trades_of start size) (firms_of start size)
-    (subst (λ (n : ℕ). AreInOrder n (trades_of start size))
-    (sym (length-map-range_with_len (firm_in (trades_of start size) (draws_of start size)) 0 16))
+    network (drawn_ends start size) (firms_of start size)
+    (subst (λ (n : ℕ). AreInOrder n (drawn_ends start size))
+    (sym (length-map-range_with_len (firm_in (drawn_ends start size) (draws_of start size)) 0 16))
     (in_order start size))
-    (λ f firm is. subst (λ (z : Firm). (z.count ≡ length (sides_of (trades_of start size) f))
-    × (z.buys ≡ buys_of (sides_of (trades_of start size) f))) (sym (firm_at start size f firm is))
-    (sided f (sides_of (trades_of start size) f) (filter_map (number_to f) (draws_of start size))))
+    (λ f firm is. subst (λ (z : Firm). (z.count ≡ length (sides_of (drawn_ends start size) f))
+    × (z.buys ≡ buys_of (sides_of (drawn_ends start size) f))) (sym (firm_at start size f firm is))
+    (sided f (sides_of (drawn_ends start size) f) (filter_map (number_to f) (draws_of start size))))
 
 -- the firms of these trades and draws
-pub firms_are : (start size : ℕ) (trades : List Ends) (draws : List Drawn) → trades ≡ trades_of start size
+pub firms_are : (start size : ℕ) (trades : List Ends) (draws : List Drawn) → trades ≡ drawn_ends start size
     → draws ≡ draws_of start size → map (firm_in trades draws) (range_with_len 0 16) ≡ firms_of start size
 firms_are start size trades draws trades_are draws_are =
     ap₂ (λ (ts : List Ends) (ds : List Drawn). map (firm_in ts ds) (range_with_len 0 16)) trades_are draws_are

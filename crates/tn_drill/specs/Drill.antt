@@ -6,9 +6,9 @@ use Rattle.tn_base.specs.Arcs.{IsAtMost}
 use Rattle.tn_base.specs.Firm.{Firm}
 use Rattle.tn_base.specs.declared.side.Side.{Side}
 use Rattle.tn_laminar.specs.Sum.{laminar_firm}
-use Rattle.tn_plain_data.specs.declared.ends.Ends.{Ends}
+use Rattle.tn_model.specs.declared.ends.Ends.{Ends}
 use Rattle.tn_middle.specs.Pairs.{middle_firm}
-use Rattle.tn_plain_data.specs.InOrder.{sides_of}
+use Rattle.tn_model.specs.InOrder.{sides_of}
 use Rattle.tn_drill.specs.declared.draws.Drawn.{Drawn}
 use Rattle.tn_drill.specs.Draws.{drawn}
 use Rattle.tn_market.specs.Widths.{most_own}
@@ -52,9 +52,9 @@ abbrev pub draws_of : ℕ → ℕ → List Drawn
 draws_of start size = map (drawn start) (range_with_len 0 size)
 
 -- and their ends
-abbrev pub trades_of : ℕ → ℕ → List Ends
-trades_of start zero = []
-trades_of start (suc size) = trades_of start size ++ ends_after (trades_of start size) (drawn start size) ∷ []
+abbrev pub drawn_ends : ℕ → ℕ → List Ends
+drawn_ends start zero = []
+drawn_ends start (suc size) = drawn_ends start size ++ ends_after (drawn_ends start size) (drawn start size) ∷ []
 
 -- a firm whose worth is the sum of its amounts and a number for the net count of its trades, by a list from the lowest
 -- net count on
@@ -71,19 +71,19 @@ abbrev pub consumer : List Side → List ℤ → Firm
 consumer = by_net_count (pos 0) (pos 0 ∷ negsuc 0 ∷ negsuc 3 ∷ negsuc 8 ∷ [])
 
 -- firm f, by its sides and its numbers
-abbrev pub firm_by : ℕ → List Side → List ℤ → Firm
-firm_by f sides numbers = if nat_lt f 4 then producer sides numbers
+abbrev pub drawn_firm : ℕ → List Side → List ℤ → Firm
+drawn_firm f sides numbers = if nat_lt f 4 then producer sides numbers
     else (if nat_lt f 12 then middle_firm sides numbers None else consumer sides numbers)
 
 -- firm f of some trades, as they were drawn
 abbrev pub firm_in : List Ends → List Drawn → ℕ → Firm
-firm_in trades draws f = firm_by f (sides_of trades f) (filter_map (number_to f) draws)
+firm_in trades draws f = drawn_firm f (sides_of trades f) (filter_map (number_to f) draws)
 
 abbrev pub firms_of : ℕ → ℕ → List Firm
-firms_of start size = map (firm_in (trades_of start size) (draws_of start size)) (range_with_len 0 16)
+firms_of start size = map (firm_in (drawn_ends start size) (draws_of start size)) (range_with_len 0 16)
 
 -- firm f has few trades, with a small number for each
-pub record AreOwn (trades : List Ends) (draws : List Drawn) (f : ℕ) : Type 0 where
+pub record HasSmallNumbers (trades : List Ends) (draws : List Drawn) (f : ℕ) : Type 0 where
   pub few : length (sides_of trades f) ≤ most_own
   pub as_many : length (filter_map (number_to f) draws) ≡ length (sides_of trades f)
   pub small : All (λ a. IsAtMost a most_amount) (filter_map (number_to f) draws)

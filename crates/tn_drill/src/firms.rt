@@ -4,12 +4,12 @@ ghost use Rattle.std.specs.Prelude.{◌≡◌, ℕ, ◌<◌, ◌≤◌, IsSome, 
 ghost use Rattle.std.specs.List.{filter_map, range_with_len};
 ghost use Rattle.tn_base.specs.Arcs.{IsAtMost};
 ghost use Rattle.tn_firm.specs.Firms.{firm_of};
-ghost use Rattle.tn_law.specs.Nested.{IsConcaveList, listed_from};
+ghost use Rattle.tn_firm_laws.specs.Nested.{IsConcaveList, listed_from};
 ghost use Rattle.tn_drill.specs.Draws.{IsWithin};
-ghost use Rattle.tn_drill.specs.Drill.{AreOwn, by_net_count, firm_in, number_to};
+ghost use Rattle.tn_drill.specs.Drill.{HasSmallNumbers, by_net_count, firm_in, number_to};
 ghost use Rattle.tn_market.specs.Widths.{most_own};
 ghost use Rattle.tn_base.specs.Widths.{most_amount};
-ghost use Rattle.tn_plain_data.specs.Limits.{most_from, most_values};
+ghost use Rattle.tn_model.specs.Limits.{most_from, most_values};
 
 use crate::draws::Drawn;
 use std::alloc::Global;
@@ -84,7 +84,7 @@ fn laminar(
 /// Firm `f` of the trades as they were drawn.
 fn firm(alloc: Global, trades: &[Ends], draws: &[Drawn], f: u32) -> Result<FirmValue, OutOfMemory>
     requires within { All IsWithin draws.now }
-    requires own { AreOwn trades.now draws.now f }
+    requires own { HasSmallNumbers trades.now draws.now f }
     ensures { IfOk result (λ firm. firm_of firm ≡ firm_in trades.now draws.now f) }
 {
     let sides = sides_of(alloc, trades, f)?;
@@ -105,7 +105,7 @@ pub(crate) fn firms(
     draws: &[Drawn],
 ) -> Result<Vec<FirmValue>, OutOfMemory>
     requires within { All IsWithin draws.now }
-    requires own { (f : ℕ) → f < 16 → AreOwn trades.now draws.now f }
+    requires own { (f : ℕ) → f < 16 → HasSmallNumbers trades.now draws.now f }
     ensures { IfOk result
         (λ firms. map firm_of firms.items ≡ map (firm_in trades.now draws.now) (range_with_len 0 16)) }
 {

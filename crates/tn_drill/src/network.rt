@@ -3,7 +3,7 @@
 ghost use Rattle.std.specs.Prelude.{◌≡◌, ◌<◌, ◌≤◌, map, IfOk};
 ghost use Rattle.tn_firm.specs.Firms.{firm_of};
 ghost use Rattle.tn_drill.specs.Draws.{most_drilled, most_start};
-ghost use Rattle.tn_drill.specs.Drill.{draws_of, firms_of, trades_of};
+ghost use Rattle.tn_drill.specs.Drill.{drawn_ends, draws_of, firms_of};
 
 use crate::draws::{Drawn, Generator};
 use crate::firms::firms;
@@ -23,7 +23,7 @@ struct Draft {
 fn draw_trades(alloc: Global, size: u32, start: u32) -> Result<Draft, OutOfMemory>
     requires few { size ≤ most_drilled }
     requires start { start ≤ most_start }
-    ensures trades { IfOk result (λ draft. draft.trades.items ≡ trades_of start size) }
+    ensures trades { IfOk result (λ draft. draft.trades.items ≡ drawn_ends start size) }
     ensures draws { IfOk result (λ draft. draft.draws.items ≡ draws_of start size) }
 {
     let mut generator = Generator::new(start);
@@ -45,7 +45,7 @@ pub fn drill(alloc: Global, size: u32, start: u32) -> Result<Market<FirmValue>, 
     requires few { size ≤ most_drilled }
     requires start { start ≤ most_start }
     ensures firms { IfOk result (λ market. map firm_of market.firms ≡ firms_of start size) }
-    ensures trades { IfOk result (λ market. market.trades ≡ trades_of start size) }
+    ensures trades { IfOk result (λ market. market.trades ≡ drawn_ends start size) }
 {
     let draft = draw_trades(alloc, size, start)?;
     let firms = firms(alloc, &draft.trades, &draft.draws)?;

@@ -12,7 +12,7 @@ use Rattle.tn_base.specs.Arcs.{IsAtMost}
 use Rattle.tn_base.specs.Firm.{HasOwnBundles, MayAbstain}
 use Rattle.tn_base.specs.Table.{row_of, worth_by_row, table_worth, table_firm, buys_of}
 use Rattle.tn_base.specs.declared.side.Side.{Side}
-use Rattle.tn_exchange.specs.Rows.{TableRows, row_at, worth_in, firm_of_table, IsWithinLimits, without_rows, with_row, with_rows}
+use Rattle.tn_exchange.specs.Rows.{TableRows, row_at, worth_in, firm_of_table, IsTableWithinLimits, without_rows, with_row, with_rows}
 use Rattle.tn_exchange.specs.RowsLaw.{AreApart}
 use Rattle.tn_base.specs.Widths.{most_amount}
 use Rattle.tn_exchange.specs.Widths.{most_table_trades}
@@ -44,7 +44,7 @@ may_abstain table = by_row (row_at table.rows 0) (worth_in-own table 0 (pow_pos 
     by_row None e = (pos 0, e)
 
 -- no number of a table is above the limit
-pub worth_is_small : (table : TableRows) → IsWithinLimits table → (x : ℕ) (a : ℤ) → worth_in table x ≡ Some a
+pub worth_is_small : (table : TableRows) → IsTableWithinLimits table → (x : ℕ) (a : ℤ) → worth_in table x ≡ Some a
     → IsAtMost a most_amount
 worth_is_small table limits x a e =
     by_row (row_at table.rows x) refl (sym (worth_in-own table x (own_bundles table x a e)) ∙ e)
@@ -63,7 +63,7 @@ worth_is_small table limits x a e =
     by_row None is e = zero_is_small (x == 0) e
 
 -- what is read at a bundle's place is its row
-pub worth_from_read : (table : TableRows) → IsWithinLimits table → (x : ℕ) (row default : Option ℤ)
+pub worth_from_read : (table : TableRows) → IsTableWithinLimits table → (x : ℕ) (row default : Option ℤ)
     → x < 2 ^ length table.sides
     → row ≡ slice_index_or table.rows x default → worth_in table x ≡ worth_by_row row x
 worth_from_read table limits x row default own read =
@@ -87,9 +87,9 @@ none_from_test (Some a) e = absurd (false≢true (sym e))
 none_from_test None e = refl
 
 -- a table keeps its limits with one row more
-pub limits_with_row : (table : TableRows) → IsWithinLimits table → (x : ℕ) (amount : ℤ) → x < 2 ^ length table.sides
+pub limits_with_row : (table : TableRows) → IsTableWithinLimits table → (x : ℕ) (amount : ℤ) → x < 2 ^ length table.sides
     → IsAtMost amount most_amount
-    → IsWithinLimits (with_row table x amount)
+    → IsTableWithinLimits (with_row table x amount)
 limits_with_row table limits x amount own small = record {
   few = limits.few;
   places = length-set table.rows x (Some amount) ∙ limits.places;
@@ -111,7 +111,7 @@ row_at-replicate n x = elim (cases_lt x n) [
 ]
 
 -- a table without rows is within the limits
-pub limits_without_rows : (sides : List Side) → length sides ≤ most_table_trades → IsWithinLimits (without_rows sides)
+pub limits_without_rows : (sides : List Side) → length sides ≤ most_table_trades → IsTableWithinLimits (without_rows sides)
 limits_without_rows sides few = record {
   few = few;
   places = length-replicate {A = Option ℤ} (2 ^ length sides) None;

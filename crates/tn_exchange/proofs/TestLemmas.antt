@@ -14,7 +14,7 @@ use Rattle.tn_base.specs.Firm.{Firm, HasOwnBundles, net, up}
 use Rattle.tn_base.specs.Exchange.{AreEnough, SwapsDown, Exchanges, IsWrongAt, Fails, NoneFails}
 use Rattle.tn_base.proofs.SetLemmas.{has_below}
 use Rattle.tn_base.proofs.ExchangeLemmas.{up_within}
-use Rattle.tn_exchange.specs.TestOrder.{Triple, IsBefore, TripleFails, IsFirstFailure}
+use Rattle.tn_exchange.specs.TestOrder.{Triple, IsTestedBefore, TripleFails, IsFirstFailure}
 use Rattle.tn_exchange.specs.Verdicts.{Swaps, HasTotal, IfFails, IsVerdictOn, IsFirstIn}
 use Rattle.tn_exchange.specs.declared.verdict.Verdict.{Verdict}
 use Rattle.tn_exchange.specs.declared.verdict.Verdict.TheVariants.{Holds, Fails as Failed}
@@ -125,7 +125,7 @@ wrong_of firm x y total h s within f =
 -- no earlier position of the same two bundles is wrong
 pub pair_fails : (firm : Firm) (x y : ℕ) (total : ℤ) (at : Option ℕ) → HasTotal firm x y total
     → IsWrongAt firm x y total at
-    → ((earlier : Option ℕ) → IsBefore earlier at → IsWrongAt firm x y total earlier → ⊥)
+    → ((earlier : Option ℕ) → IsTestedBefore earlier at → IsWrongAt firm x y total earlier → ⊥)
     → IsFirstIn firm (OfPair x y) (record { x = x; y = y; at = at })
 pair_fails firm x y total at h wrong first = record {
   is_in = (refl, refl);
@@ -142,14 +142,14 @@ pair_fails firm x y total at h wrong first = record {
 -- no position before i is wrong, where none below i is
 pub none_before : (firm : Firm) (x y : ℕ) (total : ℤ) (i : ℕ)
     → ((j : ℕ) → j < i → IsWrongAt firm x y total (Some j) → ⊥)
-    → (earlier : Option ℕ) → IsBefore earlier (Some i) → IsWrongAt firm x y total earlier → ⊥
+    → (earlier : Option ℕ) → IsTestedBefore earlier (Some i) → IsWrongAt firm x y total earlier → ⊥
 none_before firm x y total i none (Some j) before = none j before
 none_before firm x y total i none None before = absurd before
 
 -- no own position is wrong, where none below their count is
 pub none_own : (firm : Firm) (x y : ℕ) (total : ℤ) (i : ℕ) → x < 2 ^ firm.count → y < 2 ^ firm.count → firm.count ≤ i
     → ((j : ℕ) → j < i → IsWrongAt firm x y total (Some j) → ⊥)
-    → (earlier : Option ℕ) → IsBefore earlier None → IsWrongAt firm x y total earlier → ⊥
+    → (earlier : Option ℕ) → IsTestedBefore earlier None → IsWrongAt firm x y total earlier → ⊥
 none_own firm x y total i x_own y_own all none (Some j) before wrong =
     let own : j < firm.count = wrong_at_own firm x y total j x_own y_own wrong in
     none j (omega (arith, own, all)) wrong
@@ -165,7 +165,7 @@ none_more firm x y total i none here j below = elim (cases_eq j i) [
 
 -- no triple of two bundles fails, where nothing is wrong at a position or at none
 pub pair_holds : (firm : Firm) (x y : ℕ) (total : ℤ) → HasTotal firm x y total
-    → ((at : Option ℕ) → IsBefore at None → IsWrongAt firm x y total at → ⊥) → (IsWrongAt firm x y total None → ⊥)
+    → ((at : Option ℕ) → IsTestedBefore at None → IsWrongAt firm x y total at → ⊥) → (IsWrongAt firm x y total None → ⊥)
     → (s : Triple) → OfPair x y s → TripleFails firm s → ⊥
 pair_holds firm x y total h positions none s within f = at_each s.at (wrong_of firm x y total h s within f)
   where

@@ -29,7 +29,7 @@ abbrev pub firm_of_table : TableRows → Firm
 firm_of_table table = record { count = length table.sides; buys = buys_of table.sides; worth = worth_in table }
 
 -- what every raw table keeps
-pub record IsWithinLimits (table : TableRows) : Type 0 where
+pub record IsTableWithinLimits (table : TableRows) : Type 0 where
   pub few : length table.sides ≤ most_table_trades
   -- there is a place for each bundle
   pub places : length table.rows ≡ 2 ^ length table.sides

@@ -10,14 +10,14 @@ pub record Triple : Type 0 where
   pub at : Option ℕ
 
 -- positions ascend, and none comes last
-abbrev pub IsBefore : Option ℕ → Option ℕ → Type 0
-IsBefore (Some i) (Some j) = i < j
-IsBefore (Some i) None = Unit {0}
-IsBefore None at = ⊥
+abbrev pub IsTestedBefore : Option ℕ → Option ℕ → Type 0
+IsTestedBefore (Some i) (Some j) = i < j
+IsTestedBefore (Some i) None = Unit {0}
+IsTestedBefore None at = ⊥
 
 -- x descends, then y ascends, then the positions ascend
 abbrev pub IsEarlier : Triple → Triple → Type 0
-IsEarlier s t = (t.x < s.x) ⊎ ((s.x ≡ t.x) × ((s.y < t.y) ⊎ ((s.y ≡ t.y) × IsBefore s.at t.at)))
+IsEarlier s t = (t.x < s.x) ⊎ ((s.x ≡ t.x) × ((s.y < t.y) ⊎ ((s.y ≡ t.y) × IsTestedBefore s.at t.at)))
 
 abbrev pub TripleFails : Firm → Triple → Type 0
 TripleFails firm t = Fails firm t.x t.y t.at

@@ -6,7 +6,7 @@ ghost use Rattle.tn_base.specs.Arcs.{IsAtMost};
 ghost use Rattle.tn_base.specs.Firm.{up};
 ghost use Rattle.tn_base.specs.Table.{buys_of};
 ghost use Rattle.tn_base.specs.Exchange.{AreEnough, Exchanges, IsWrongAt, Fails, NoneFails};
-ghost use Rattle.tn_exchange.specs.Rows.{firm_of_table, IsWithinLimits};
+ghost use Rattle.tn_exchange.specs.Rows.{firm_of_table, IsTableWithinLimits};
 ghost use Rattle.tn_exchange.specs.TestOrder.{IsFirstFailure};
 ghost use Rattle.tn_exchange.specs.Verdicts.{HasTotal, IfFails, IsVerdictOn, Swaps};
 ghost use Rattle.tn_base.specs.Widths.{most_amount};
@@ -22,7 +22,7 @@ use tn_base::Bundle;
 pub fn test(table: &RawTable) -> Verdict
     ensures holds { (result ≡ Verdict.Holds) ↔ NoneFails (firm_of_table table.now) }
     ensures first { IfFails result (IsFirstFailure (firm_of_table table.now)) }
-    ensures within { IsWithinLimits table.now }
+    ensures within { IsTableWithinLimits table.now }
 {
     let buys = table.buys();
     for bits in (0..table.bundles()).rev() {

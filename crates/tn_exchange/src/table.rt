@@ -4,7 +4,7 @@ ghost use Rattle.std.specs.Prelude.{◌≡◌, ◌^◌, ◌<◌, ◌≤◌, ◌�
 ghost use Rattle.tn_base.specs.Arcs.{IsAtMost};
 ghost use Rattle.tn_base.specs.Every.{HasEveryBundle};
 ghost use Rattle.tn_base.specs.Table.{buys_of};
-ghost use Rattle.tn_exchange.specs.Rows.{HasRow, IsWithinLimits, firm_of_table, without_rows, with_row};
+ghost use Rattle.tn_exchange.specs.Rows.{HasRow, IsTableWithinLimits, firm_of_table, without_rows, with_row};
 ghost use Rattle.tn_exchange.specs.Widths.{most_table_trades};
 ghost use Rattle.tn_base.specs.Widths.{most_amount};
 
@@ -23,13 +23,13 @@ pub struct RawTable {
 }
 
 impl Model for RawTable {
-    ghost use Rattle.tn_exchange.specs.Rows.{TableRows, IsWithinLimits};
+    ghost use Rattle.tn_exchange.specs.Rows.{TableRows, IsTableWithinLimits};
 
     ghost Value = { TableRows };
 
     ghost view = { λ table. record { sides = table.sides.items; rows = table.rows.items } };
 
-    ghost invariant = { λ table. IsWithinLimits (record { sides = table.sides.items; rows = table.rows.items }) };
+    ghost invariant = { λ table. IsTableWithinLimits (record { sides = table.sides.items; rows = table.rows.items }) };
 }
 
 impl RawTable {
@@ -88,7 +88,7 @@ impl RawTable {
     /// How many trades are the firm's own, at most 14.
     pub fn trades(&self) -> u32
         ensures count { result ≡ length self.now.sides }
-        ensures within { IsWithinLimits self.now }
+        ensures within { IsTableWithinLimits self.now }
     {
         self.sides.len() as u32
     }
@@ -111,7 +111,7 @@ impl RawTable {
     /// The positions that are bought.
     pub fn buys(&self) -> Bundle
         ensures members { result ≡ buys_of self.now.sides }
-        ensures within { IsWithinLimits self.now }
+        ensures within { IsTableWithinLimits self.now }
     {
         purchases(&self.sides)
     }

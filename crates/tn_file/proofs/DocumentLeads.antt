@@ -5,24 +5,24 @@ use Rattle.serde_json.specs.Data.{Data, Items}
 use Rattle.serde_json.specs.Events.{items_len}
 use Rattle.tn_base.specs.Firm.{Firm}
 use Rattle.tn_market.specs.Valued.{IsWorthAtMost}
-use Rattle.tn_base.specs.declared.fault.FaultKind.TheVariants.{NotJson}
+use Rattle.tn_said.specs.declared.fault.FaultKind.TheVariants.{NotJson}
 use Rattle.tn_names.specs.Names.{no_names}
 use Rattle.tn_file.specs.declared.need.Need.{Need}
 use Rattle.tn_file.specs.declared.need.Need.TheVariants.{Market, Raw, Arrangement, RawArrangement, On, Outcome, Edits, Claim}
 use Rattle.tn_read_head.specs.Beside.{with_names}
-use Rattle.tn_shape.specs.Reading.{each, wanted}
+use Rattle.tn_read_shapes.specs.Reading.{each, wanted}
 use Rattle.tn_file.specs.Json.{json_of}
 use Rattle.tn_read_references.specs.Ordered.{AreTrades, Listed}
 use Rattle.tn_read_firms.specs.Firms.{one_firm}
 use Rattle.tn_read_parts.specs.Arranged.{arrangement_of, trades_on_of, IsArrangement}
 use Rattle.tn_read_parts.specs.Signed.{outcome_of}
 use Rattle.tn_read_parts.specs.Edited.{edits_of}
-use Rattle.tn_plain_data.specs.Edits.{AreEdits}
-use Rattle.tn_plain_data.specs.ClaimLimits.{IsClaimWithin}
-use Rattle.tn_plain_data.specs.Limits.{most_worth_among, worth_limit}
-use Rattle.tn_plain_data.specs.Network.{IsNetwork}
-use Rattle.tn_plain_data.specs.OutcomeLimits.{IsOutcomeWithin}
-use Rattle.tn_read_claims.specs.Claimed.{claim_of, claims_raw, is_raw, kind_is}
+use Rattle.tn_said.specs.Edits.{AreEdits}
+use Rattle.tn_said.specs.ClaimLimits.{IsClaimWithin}
+use Rattle.tn_model.specs.Limits.{most_worth_among, worth_limit}
+use Rattle.tn_model.specs.Network.{IsNetwork}
+use Rattle.tn_model.specs.OutcomeLimits.{IsOutcomeWithin}
+use Rattle.tn_read_claims.specs.Claimed.{claim_of, claims_raw, is_raw_kind, kind_is}
 use Rattle.tn_read_claims.proofs.ClaimLeads.{claim_leads}
 use Rattle.tn_read_claims.proofs.KindLeads.{claims_keep_limits, raw_claims_are_told}
 use Rattle.tn_read_claims.specs.Laws.{KeepsClaimLimits}
@@ -33,7 +33,7 @@ use Rattle.tn_read_head.specs.declared.refusal.DocRefusal.{DocRefusal}
 use Rattle.tn_file.specs.Refusal.{document_view}
 use Rattle.tn_file.specs.declared.document.Document.{Document}
 use Rattle.tn_file.specs.Laws.{IsDocument, IsExtra, KeepsLimits, DocumentsAreNetworks}
-use Rattle.tn_shape.proofs.LeadLemmas.{Leads, leads_ok, leads_bind, leads_after, leads_both}
+use Rattle.tn_read_shapes.proofs.LeadLemmas.{Leads, leads_ok, leads_bind, leads_after, leads_both}
 use Rattle.tn_read_head.proofs.BesideLemmas.{leads_beside}
 use Rattle.tn_read_firms.proofs.FirmLeads.{AreFirms, firms_are, firms_are_counted, network_of, positions_ascend}
 use Rattle.tn_read_references.proofs.EntryLeads.{within_more}
@@ -121,7 +121,7 @@ accepted_leads On listed top = record { at = λ extra e. refl }
 accepted_leads Outcome listed top = record { at = λ extra e. refl }
 accepted_leads Edits listed top = record { at = λ extra e. refl }
 accepted_leads Claim listed top =
-    leads_bind (λ read. claims_raw top ≡ is_raw (kind_is read)) (λ extra. is_accepted Claim extra ≡ is_tested Claim top)
+    leads_bind (λ read. claims_raw top ≡ is_raw_kind (kind_is read)) (λ extra. is_accepted Claim extra ≡ is_tested Claim top)
     (claim_of listed top) _ (record { at = raw_claims_are_told listed top }) (λ read told.
     leads_ok (λ extra. is_accepted Claim extra ≡ is_tested Claim top) (claim read) (ap not (sym told)))
 

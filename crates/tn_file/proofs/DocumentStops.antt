@@ -2,19 +2,19 @@
 use Rattle.std.proofs.Common.{◌≡◌, ℕ, ◌<◌, ◌≤◌, List, [], length, refl, arith}
 use Rattle.serde_json.specs.Data.{Data, Items}
 use Rattle.serde_json.specs.Events.{items_len}
-use Rattle.tn_plain_data.specs.Limits.{most_own_trades}
-use Rattle.tn_plain_data.specs.declared.said.Fault.{Fault}
+use Rattle.tn_model.specs.Limits.{most_own_trades}
+use Rattle.tn_said.specs.declared.said.Fault.{Fault}
 use Rattle.tn_read_claims.specs.Claimed.{claim_of}
 use Rattle.tn_read_claims.proofs.ClaimStops.{claim_stops}
 use Rattle.tn_read_firms.proofs.FirmLeads.{AreFirms, firms_are, firms_are_counted, few_own_firm}
-use Rattle.tn_shape.proofs.LeadLemmas.{leads_both}
-use Rattle.tn_base.specs.declared.fault.FaultKind.TheVariants.{NotJson}
+use Rattle.tn_read_shapes.proofs.LeadLemmas.{leads_both}
+use Rattle.tn_said.specs.declared.fault.FaultKind.TheVariants.{NotJson}
 use Rattle.tn_names.specs.Names.{no_names}
 use Rattle.tn_file.specs.declared.need.Need.{Need}
 use Rattle.tn_file.specs.declared.need.Need.TheVariants.{Market, Raw, Arrangement, RawArrangement, On, Outcome, Edits, Claim}
 use Rattle.tn_read_references.specs.Ordered.{AreTrades, Listed, sides_of}
 use Rattle.tn_read_head.specs.Beside.{with_names, IsStop}
-use Rattle.tn_shape.specs.Reading.{each, wanted}
+use Rattle.tn_read_shapes.specs.Reading.{each, wanted}
 use Rattle.tn_file.specs.Json.{json_of}
 use Rattle.tn_read_parts.specs.Arranged.{arrangement_of, trades_on_of}
 use Rattle.tn_read_parts.specs.Signed.{outcome_of}
@@ -24,7 +24,7 @@ use Rattle.tn_file.specs.Document.{arrangement, nothing, on_alone, outcome, edit
 use Rattle.tn_read_head.specs.Listing.{listed_of}
 use Rattle.tn_file.specs.Laws.{FaultsAreSayable, ReadingsAreNeverTooLong}
 use Rattle.tn_read_head.proofs.ListingLeads.{IsListing, listed_leads}
-use Rattle.tn_shape.proofs.StopLemmas.{IsPlain, Stops, plain_wanted, stops_after, stops_bind, stops_ok}
+use Rattle.tn_read_shapes.proofs.StopLemmas.{IsPlain, Stops, plain_wanted, stops_after, stops_bind, stops_ok}
 use Rattle.tn_read_references.proofs.ToldLemmas.{IsTold, told_from_plain}
 use Rattle.tn_read_head.proofs.BesideLemmas.{stops_beside}
 use Rattle.tn_read_firms.proofs.FirmStops.{firms_stop}

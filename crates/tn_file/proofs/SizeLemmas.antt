@@ -1,7 +1,7 @@
 -- A document is within the limits of every version, since it is within those of its own.
 use Rattle.std.proofs.Common.{◌≤◌, length, arith}
-use Rattle.tn_plain_data.specs.Limits.{AreLimits, most_firms, most_trades}
-use Rattle.tn_plain_data.proofs.LimitLemmas.{limits_are}
+use Rattle.tn_model.specs.Limits.{AreLimits, most_firms, most_trades}
+use Rattle.tn_model.proofs.LimitLemmas.{limits_are}
 use Rattle.tn_file.specs.declared.need.Need.{Need}
 use Rattle.tn_file.specs.Document.{DocumentData}
 use Rattle.tn_file.specs.Laws.{IsDocument}

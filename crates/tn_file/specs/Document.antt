@@ -1,25 +1,25 @@
 -- The reading of a document: what it stands for, or the first fault.
 use Rattle.std.specs.Prelude.{ℕ, [], List, Bool, true, false, not, Result, Ok}
 use Rattle.serde_json.specs.Data.{Data, Items}
-use Rattle.tn_base.specs.declared.fault.FaultKind.TheVariants.{NotJson}
+use Rattle.tn_said.specs.declared.fault.FaultKind.TheVariants.{NotJson}
 use Rattle.tn_base.specs.Firm.{Firm}
-use Rattle.tn_plain_data.specs.declared.claim.Claim.{Claim as ClaimIs}
-use Rattle.tn_plain_data.specs.declared.contract.Outcome.{Outcome as OutcomeIs}
-use Rattle.tn_plain_data.specs.declared.ends.Ends.{Ends}
-use Rattle.tn_plain_data.specs.declared.said.Fault.{Fault}
-use Rattle.tn_plain_data.specs.declared.session.Edit.{Edit}
+use Rattle.tn_said.specs.declared.claim.Claim.{Claim as ClaimIs}
+use Rattle.tn_model.specs.declared.contract.Outcome.{Outcome as OutcomeIs}
+use Rattle.tn_model.specs.declared.ends.Ends.{Ends}
+use Rattle.tn_said.specs.declared.said.Fault.{Fault}
+use Rattle.tn_said.specs.declared.session.Edit.{Edit}
 use Rattle.tn_names.specs.Names.{NameLists, no_names}
 use Rattle.tn_file.specs.declared.need.Need.{Need}
 use Rattle.tn_file.specs.declared.need.Need.TheVariants.{Market, Raw, Arrangement, RawArrangement, On, Outcome, Edits, Claim}
 use Rattle.tn_read_references.specs.Ordered.{Listed}
 use Rattle.tn_read_head.specs.Beside.{Stop, with_names}
-use Rattle.tn_shape.specs.Reading.{◌>>=◌, each, wanted}
+use Rattle.tn_read_shapes.specs.Reading.{◌>>=◌, each, wanted}
 use Rattle.tn_file.specs.Json.{json_of}
 use Rattle.tn_read_firms.specs.Firms.{one_firm}
 use Rattle.tn_read_parts.specs.Arranged.{Arranged, arrangement_of, trades_on_of}
 use Rattle.tn_read_parts.specs.Signed.{outcome_of}
 use Rattle.tn_read_parts.specs.Edited.{edits_of}
-use Rattle.tn_read_claims.specs.Claimed.{claim_of, claims_raw, is_raw, kind_is}
+use Rattle.tn_read_claims.specs.Claimed.{claim_of, claims_raw, is_raw_kind, kind_is}
 use Rattle.tn_read_head.specs.Listing.{listed_of}
 
 -- what a command reads beside the network
@@ -51,7 +51,7 @@ claims_market (arrangement part) = false
 claims_market (on_alone on) = false
 claims_market (outcome signed) = false
 claims_market (edits listed) = false
-claims_market (claim read) = not (is_raw (kind_is read))
+claims_market (claim read) = not (is_raw_kind (kind_is read))
 
 -- each firm has met exchange, by the need and what was read beside the network
 abbrev pub is_accepted : Need → ExtraData → Bool

@@ -1,15 +1,15 @@
 -- What holds of every document that is read, and of every fault, in words that know nothing of the reading.
 use Rattle.std.specs.Prelude.{◌≡◌, ◌≢◌, ℕ, ◌≤◌, ◌<◌, ◌^◌, List, length, slice_get, true, Some, Ok, Err}
-use Rattle.tn_base.specs.declared.fault.FaultKind.TheVariants.{TooLong}
+use Rattle.tn_said.specs.declared.fault.FaultKind.TheVariants.{TooLong}
 use Rattle.tn_base.specs.Firm.{Firm, HasOwnBundles, MayAbstain}
 use Rattle.tn_market.specs.Accepted.{AreAccepted}
 use Rattle.tn_market.specs.Limits.{AreWorthsWithin}
-use Rattle.tn_plain_data.specs.ClaimLimits.{IsClaimWithin}
-use Rattle.tn_plain_data.specs.Limits.{limits_of, most_worth_among}
-use Rattle.tn_plain_data.specs.OutcomeLimits.{IsOutcomeWithin}
-use Rattle.tn_plain_data.specs.declared.ends.Ends.{Ends}
-use Rattle.tn_plain_data.specs.declared.limits.Limits.{Limits}
-use Rattle.tn_plain_data.specs.Network.{IsNetwork, HaveAscendingPositions}
+use Rattle.tn_said.specs.ClaimLimits.{IsClaimWithin}
+use Rattle.tn_model.specs.Limits.{limits_of, most_worth_among}
+use Rattle.tn_model.specs.OutcomeLimits.{IsOutcomeWithin}
+use Rattle.tn_model.specs.declared.ends.Ends.{Ends}
+use Rattle.tn_model.specs.declared.limits.Limits.{Limits}
+use Rattle.tn_model.specs.Network.{IsNetwork, HaveAscendingPositions}
 use Rattle.tn_names.specs.Names.{IsNameList}
 use Rattle.tn_file.specs.declared.need.Need.{Need}
 use Rattle.tn_read_head.specs.Beside.{Stop, IsStop}
@@ -17,7 +17,7 @@ use Rattle.tn_file.specs.Document.{DocumentData, ExtraData, nothing, arrangement
 use Rattle.tn_read_claims.specs.Laws.{KeepsClaimLimits}
 use Rattle.tn_read_firms.specs.Laws.{IsListedFirm}
 use Rattle.tn_read_parts.specs.Arranged.{IsArrangement}
-use Rattle.tn_plain_data.specs.Edits.{AreEdits}
+use Rattle.tn_said.specs.Edits.{AreEdits}
 
 abbrev pub IsExtra : List Firm → List Ends → ExtraData → Type 0
 IsExtra firms trades nothing = Unit {0}

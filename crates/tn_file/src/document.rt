@@ -6,8 +6,8 @@ use std::marker::Model;
 use tn_base::{Bundle, OutOfMemory};
 use tn_firm::{FirmValue, RawFirm};
 use tn_market::{Ends, Market, Trades};
+use tn_model::trades_of;
 use tn_names::Names;
-use tn_plain_data::trades_of;
 use tn_read_firms::own_option;
 
 /// A document that is read.
@@ -63,8 +63,8 @@ impl Model for RawNet {
 impl RawNet {
     ghost use Rattle.std.specs.Prelude.{◌≡◌, ◌≤◌, length, option_map, All, IfOk};
     ghost use Rattle.tn_firm.specs.Raw.{CanBeTested};
-    ghost use Rattle.tn_plain_data.specs.Limits.{most_trades};
-    ghost use Rattle.tn_plain_data.specs.Network.{own, trades_of};
+    ghost use Rattle.tn_model.specs.Limits.{most_trades};
+    ghost use Rattle.tn_model.specs.Network.{own, trades_of};
 
     pub(crate) fn new(firms: Vec<RawFirm>, ends: Vec<Ends>) -> RawNet
         requires { All CanBeTested firms.items }

@@ -2,8 +2,8 @@
 
 ghost use Rattle.std.specs.Prelude.{◌≡◌, ℕ, ◌<◌, ◌≤◌, length, IfOk};
 ghost use Rattle.serde_json.specs.View.{view};
-ghost use Rattle.tn_plain_data.specs.Limits.{most_own_trades};
-ghost use Rattle.tn_shape.specs.Reading.{Gives};
+ghost use Rattle.tn_model.specs.Limits.{most_own_trades};
+ghost use Rattle.tn_read_shapes.specs.Reading.{Gives};
 ghost use Rattle.tn_read_references.specs.Ordered.{sides_of};
 ghost use Rattle.tn_file.specs.Document.{IsBesideRaw, IsPartFor, extra_of};
 ghost use Rattle.tn_file.specs.Extra.{extra_view, raw_extra_view};
@@ -12,11 +12,12 @@ use crate::need::Need;
 use serde_json::Value;
 use std::alloc::Global;
 use tn_base::TradeSet;
-use tn_market::{Arrangement, Claim, Edits, Outcome};
+use tn_market::{Arrangement, Outcome};
 use tn_read_claims::read_claim;
 use tn_read_parts::{read_arrangement, read_edits, read_outcome, read_trades_on};
 use tn_read_references::Head;
-use tn_shape::ReadError;
+use tn_read_shapes::ReadError;
+use tn_said::{Claim, Edits};
 
 /// What is read beside a network whose firms meet exchange.
 #[derive(Drop)]

@@ -2,7 +2,7 @@
 
 ghost use Rattle.std.specs.Prelude.{◌≡◌, [], length, map, true, false, All, IfOk, Ok};
 ghost use Rattle.serde_json.specs.View.{view, items_view};
-ghost use Rattle.tn_shape.specs.Reading.{Gives, each};
+ghost use Rattle.tn_read_shapes.specs.Reading.{Gives, each};
 ghost use Rattle.tn_read_references.specs.Ordered.{AreTrades};
 ghost use Rattle.tn_read_head.specs.Refused.{Reads, refusal_of};
 ghost use Rattle.tn_read_firms.specs.Firms.{one_firm};
@@ -21,7 +21,7 @@ use tn_read_claims::claims_raw;
 use tn_read_firms::{FromKinds, read_firms};
 use tn_read_head::{DocRefusal, read_head};
 use tn_read_references::Head;
-use tn_shape::ReadError;
+use tn_read_shapes::ReadError;
 
 /// Reads a document.
 #[tactic(auto, unfolding(crate::specs::Document::document_of))]

@@ -2,8 +2,8 @@
 
 ghost use Rattle.std.specs.Prelude.{[], IfOk};
 ghost use Rattle.serde_json.specs.View.{view};
-ghost use Rattle.tn_base.specs.declared.fault.FaultKind.TheVariants.{NotJson};
-ghost use Rattle.tn_shape.specs.Reading.{Gives, wanted};
+ghost use Rattle.tn_said.specs.declared.fault.FaultKind.TheVariants.{NotJson};
+ghost use Rattle.tn_read_shapes.specs.Reading.{Gives, wanted};
 ghost use Rattle.tn_read_head.specs.Refused.{Reads};
 ghost use Rattle.tn_file.specs.Document.{reading_of};
 ghost use Rattle.tn_file.specs.Json.{json_of};
@@ -15,10 +15,10 @@ use crate::need::Need;
 use crate::network::read_document;
 use serde_json::Value;
 use std::alloc::Global;
-use tn_base::FaultKind;
 use tn_names::Names;
 use tn_read_head::DocRefusal;
-use tn_shape::{ReadError, fault};
+use tn_read_shapes::{ReadError, fault};
+use tn_said::FaultKind;
 
 /// Reads a document from its bytes: what they stand for, or the first fault.
 pub fn read_doc(alloc: Global, need: Need, bytes: &[u8]) -> Result<Document, DocRefusal>

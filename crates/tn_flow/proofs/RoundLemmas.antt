@@ -10,12 +10,12 @@ use Rattle.tn_base.specs.Sets.{has, toggle}
 use Rattle.tn_base.specs.Firm.{Firm, MayAbstain}
 use Rattle.tn_base.specs.Walks.{arcs_among, is_admitted, is_looked_at, KeepsArcs, KeepsArcsEntering}
 use Rattle.tn_base.proofs.WalkLemmas.{SameArcs, least_cycle-same, cycles-same}
-use Rattle.tn_plain_data.specs.declared.ends.Ends.{Ends}
-use Rattle.tn_plain_data.specs.Network.{IsNetwork}
+use Rattle.tn_model.specs.declared.ends.Ends.{Ends}
+use Rattle.tn_model.specs.Network.{IsNetwork}
 use Rattle.tn_market.specs.Best.{IsSubset}
 use Rattle.tn_market.specs.Graph.{exchange_arc}
 use Rattle.tn_market.specs.Widths.{most_market_trades}
-use Rattle.tn_graph.specs.Blocks.{Blocks, arcs_of}
+use Rattle.tn_graph.specs.Blocks.{CostBlocks, arcs_of}
 use Rattle.tn_graph.specs.Reading.{IsExchangeAmong}
 use Rattle.tn_graph.proofs.AdmitLemmas.{among_fewer}
 use Rattle.tn_cycle.specs.Reading.{Reading}
@@ -23,16 +23,16 @@ use Rattle.tn_cycle.specs.Answers.{AnswersCycle, AreLabels, AreNear, cost_of, la
 use Rattle.tn_cycle.specs.Widths.{label_step, most_label}
 use Rattle.tn_cycle.specs.declared.answer.Path.{Path}
 use Rattle.tn_cycle.specs.declared.answer.Path.TheVariants as path
-use Rattle.tn_network.specs.Laws.{MeetExchange}
-use Rattle.tn_network.specs.Kept.{IsKept}
-use Rattle.tn_network.specs.Rounds.{arcs_with}
-use Rattle.tn_network.proofs.SplitLemmas.{one_number}
-use Rattle.tn_network.proofs.KeptLemmas.{keeps-same, entering-same, one_cycle_for_each_trade}
+use Rattle.tn_network_laws.specs.Laws.{MeetExchange}
+use Rattle.tn_network_laws.specs.Kept.{IsKept}
+use Rattle.tn_network_laws.specs.Rounds.{arcs_with}
+use Rattle.tn_network_laws.proofs.SplitLemmas.{one_number}
+use Rattle.tn_network_laws.proofs.KeptLemmas.{keeps-same, entering-same, one_cycle_for_each_trade}
 use Rattle.tn_flow.specs.Underway.{AreKept, AreUnderWay, IsNext, AreAdmittedBelow}
-use Rattle.tn_network.specs.Along.{along}
-use Rattle.tn_network.proofs.AlongLemmas.{along-push}
+use Rattle.tn_network_laws.specs.Along.{along}
+use Rattle.tn_network_laws.proofs.AlongLemmas.{along-push}
 use Rattle.tn_cycle.proofs.DifferenceLemmas.{labels-same}
-use Rattle.tn_network.proofs.EachLemmas.{each_firm}
+use Rattle.tn_network_laws.proofs.EachLemmas.{each_firm}
 
 -- the set along one node more
 pub along-next : (count on : ℕ) (nodes : List ℕ) (k v : ℕ) → k < length nodes → slice_get nodes k ≡ Some v
@@ -107,7 +107,7 @@ looked_at_joined null allowed t v out is = elim (cases_eq v t) [
     or_true false = refl
 
 -- the arcs that the search for a cycle through a trade looks at, where the trade's own are read
-pub looked_same : (firms : List Firm) (trades : List Ends) (on allowed t : ℕ) (graph : Blocks) → has allowed t ≡ false
+pub looked_same : (firms : List Firm) (trades : List Ends) (on allowed t : ℕ) (graph : CostBlocks) → has allowed t ≡ false
     → IsExchangeAmong firms trades on (toggle allowed t) graph
     → SameArcs (arcs_among (is_looked_at (length trades) t allowed) (arcs_of graph))
     (arcs_among (is_looked_at (length trades) t allowed) (exchange_arc firms trades on))
@@ -117,7 +117,7 @@ looked_same firms trades on allowed t graph out joined =
     (looked_at_joined (length trades) allowed t v out v_in))
 
 -- the graph is right among the trades that were admitted before, too
-pub before_joined : (firms : List Firm) (trades : List Ends) (on allowed t : ℕ) (graph : Blocks)
+pub before_joined : (firms : List Firm) (trades : List Ends) (on allowed t : ℕ) (graph : CostBlocks)
     → has allowed t ≡ false → IsExchangeAmong firms trades on (toggle allowed t) graph
     → IsExchangeAmong firms trades on allowed graph
 before_joined firms trades on allowed t graph out joined =
@@ -138,7 +138,7 @@ pub last_node : (nodes count : ℕ) → nodes ≡ count + 1 → nodes - 1 ≡ co
 last_node nodes count e = omega (arith, e)
 
 -- what the search asks for
-pub search_asks : (firms : List Firm) (trades : List Ends) (graph : Blocks) (finder : Reading) (allowed on null : ℕ)
+pub search_asks : (firms : List Firm) (trades : List Ends) (graph : CostBlocks) (finder : Reading) (allowed on null : ℕ)
     → AreUnderWay firms trades graph finder allowed on → null ≡ length trades
     → KeepsArcs (arcs_among (is_admitted null allowed) (arcs_of graph)) (label_in finder.labels)
 search_asks firms trades graph finder allowed on null way same =
@@ -148,7 +148,7 @@ search_asks firms trades graph finder allowed on null way same =
     way.arcs.arcs) (label_in finder.labels) way.labels.keeps)
 
 -- what it answers, with the labels that it leaves
-pub search_answers : (firms : List Firm) (trades : List Ends) (graph : Blocks) (finder : Reading) (allowed on t : ℕ)
+pub search_answers : (firms : List Firm) (trades : List Ends) (graph : CostBlocks) (finder : Reading) (allowed on t : ℕ)
     (after : Reading) (answer : Path) → IsNetwork firms trades → MeetExchange firms
     → AreUnderWay firms trades graph finder allowed on → t < length trades → has allowed t ≡ false
     → IsExchangeAmong firms trades on (toggle allowed t) graph
@@ -206,7 +206,7 @@ search_answers firms trades graph finder allowed on t after answer network meet 
 -- ---- labels
 
 -- the arcs among the admitted trades and null
-pub admitted_same : (firms : List Firm) (trades : List Ends) (graph : Blocks) (finder : Reading) (allowed on : ℕ)
+pub admitted_same : (firms : List Firm) (trades : List Ends) (graph : CostBlocks) (finder : Reading) (allowed on : ℕ)
     → AreUnderWay firms trades graph finder allowed on
     → SameArcs (arcs_among (is_admitted (length trades) allowed) (exchange_arc firms trades on))
     (arcs_among (is_admitted (length trades) allowed) (arcs_of graph))
@@ -214,7 +214,7 @@ admitted_same firms trades graph finder allowed on way u v =
     sym (among-within (is_admitted (length trades) allowed) (arcs_of graph) (exchange_arc firms trades on)
     way.arcs.arcs u v)
 
-pub settled_labels : (firms : List Firm) (trades : List Ends) (graph : Blocks) (finder : Reading) (allowed on count : ℕ)
+pub settled_labels : (firms : List Firm) (trades : List Ends) (graph : CostBlocks) (finder : Reading) (allowed on count : ℕ)
     (labels : List ℤ) → AreUnderWay firms trades graph finder allowed on → count ≡ length trades
     → AreLabels finder.nodes (arcs_among (is_admitted count allowed) (arcs_of graph)) labels
     → AreLabels (length trades + 1) (arcs_among (is_admitted (length trades) allowed) (exchange_arc firms trades on))

@@ -6,25 +6,25 @@ use Rattle.tn_base.specs.Arcs.{IsAtMost}
 use Rattle.tn_base.specs.Firm.{Firm}
 use Rattle.tn_base.specs.Walks.{arcs_among, is_admitted, KeepsArcs}
 use Rattle.tn_base.specs.Widths.{most_cost}
-use Rattle.tn_plain_data.specs.declared.ends.Ends.{Ends}
-use Rattle.tn_plain_data.specs.Network.{IsNetwork}
-use Rattle.tn_plain_data.specs.Prices.{price_at}
+use Rattle.tn_model.specs.declared.ends.Ends.{Ends}
+use Rattle.tn_model.specs.Network.{IsNetwork}
+use Rattle.tn_model.specs.Prices.{price_at}
 use Rattle.tn_market.specs.Widths.{most_market_trades}
 use Rattle.tn_market.specs.Graph.{exchange_arc}
 use Rattle.tn_market.specs.Admitted.{admitted}
-use Rattle.tn_graph.specs.Blocks.{Blocks, arcs_of}
+use Rattle.tn_graph.specs.Blocks.{CostBlocks, arcs_of}
 use Rattle.tn_graph.specs.BlockLemmas.{arcs_of-small}
 use Rattle.tn_cycle.specs.Reading.{Reading}
 use Rattle.tn_cycle.specs.Answers.{AreLabels, label_in}
 use Rattle.tn_cycle.specs.GraphLemmas.{small-arcs_among}
 use Rattle.tn_cycle.specs.Widths.{most_read}
 use Rattle.tn_cycle.proofs.DifferenceLemmas.{label_small, difference_within}
-use Rattle.tn_network.specs.Laws.{MeetExchange}
-use Rattle.tn_network.proofs.AdmittedLemmas.{admitted_network}
-use Rattle.tn_network.proofs.KeptLemmas.{one_cycle_for_each_trade}
-use Rattle.tn_network.proofs.EachLemmas.{same_prices}
+use Rattle.tn_network_laws.specs.Laws.{MeetExchange}
+use Rattle.tn_network_laws.proofs.AdmittedLemmas.{admitted_network}
+use Rattle.tn_network_laws.proofs.KeptLemmas.{one_cycle_for_each_trade}
+use Rattle.tn_network_laws.proofs.EachLemmas.{same_prices}
 use Rattle.tn_market.specs.Limits.{AreWorthsWithin}
-use Rattle.tn_network.proofs.SupportLemmas.{arcs_small}
+use Rattle.tn_network_laws.proofs.SupportLemmas.{arcs_small}
 use Rattle.tn_flow.specs.Underway.{AreUnderWay}
 use Rattle.tn_flow.proofs.RoundLemmas.{admitted_same}
 use Rattle.tn_flow.specs.Solved.{IsSolution, AreSmallPrices}
@@ -36,7 +36,7 @@ small_bound limit count small = let e : 2 * limit * (count + 1) ≡ 2 * limit * 
     omega (arith, small, e)
 
 -- the labels of a graph are small
-pub labels_small : (firms : List Firm) (trades : List Ends) (graph : Blocks) (finder : Reading) (allowed on : ℕ)
+pub labels_small : (firms : List Firm) (trades : List Ends) (graph : CostBlocks) (finder : Reading) (allowed on : ℕ)
     (labels : List ℤ) → AreUnderWay firms trades graph finder allowed on → length trades ≤ most_market_trades
     → AreLabels (length trades + 1) (arcs_among (is_admitted (length trades) allowed) (exchange_arc firms trades on))
     labels → (t : ℕ) → t < length labels → IsAtMost (label_in labels t) most_read
@@ -49,7 +49,7 @@ labels_small firms trades graph finder allowed on labels way few are =
 -- ---- prices
 
 -- what the rounds come to is a solution
-pub solution_from : (firms : List Firm) (trades : List Ends) (graph : Blocks) (finder : Reading) (allowed wanted on : ℕ)
+pub solution_from : (firms : List Firm) (trades : List Ends) (graph : CostBlocks) (finder : Reading) (allowed wanted on : ℕ)
     (labels prices : List ℤ) → IsNetwork firms trades → MeetExchange firms
     → AreUnderWay firms trades graph finder allowed on → allowed ≡ wanted
     → KeepsArcs (arcs_among (is_admitted (length trades) allowed) (exchange_arc firms trades on)) (label_in labels)

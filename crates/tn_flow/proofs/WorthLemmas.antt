@@ -7,8 +7,8 @@ use Rattle.tn_base.specs.Firm.{Firm}
 use Rattle.tn_base.specs.Sets.{has}
 use Rattle.tn_base.proofs.SetLemmas.{set_of_within}
 use Rattle.tn_base.proofs.SizeLemmas.{size_le}
-use Rattle.tn_plain_data.specs.declared.ends.Ends.{Ends}
-use Rattle.tn_plain_data.specs.Network.{own, part, IsNetwork}
+use Rattle.tn_model.specs.declared.ends.Ends.{Ends}
+use Rattle.tn_model.specs.Network.{own, part, IsNetwork}
 use Rattle.tn_market.specs.Graph.{graph_worths}
 use Rattle.tn_graph.specs.Reading.{IsAskedPosition, admitted_count, block_worths, changed_worths_from, line_worths}
 use Rattle.tn_graph.proofs.AskedLemmas.{block_fits, block_and_line_fit, line_fits}

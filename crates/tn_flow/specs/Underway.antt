@@ -3,19 +3,19 @@ use Rattle.std.specs.Prelude.{◌≡◌, ℕ, ◌+◌, nat_lt, ◌&&◌, ℤ, Li
 use Rattle.tn_base.specs.Firm.{Firm}
 use Rattle.tn_base.specs.Sets.{has, toggle}
 use Rattle.tn_base.specs.Walks.{arcs_among, is_admitted, KeepsArcs}
-use Rattle.tn_plain_data.specs.declared.ends.Ends.{Ends}
+use Rattle.tn_model.specs.declared.ends.Ends.{Ends}
 use Rattle.tn_market.specs.Graph.{exchange_arc}
-use Rattle.tn_graph.specs.Blocks.{Blocks}
+use Rattle.tn_graph.specs.Blocks.{CostBlocks}
 use Rattle.tn_graph.specs.Reading.{IsExchangeAmong}
 use Rattle.tn_cycle.specs.Reading.{Reading}
 use Rattle.tn_cycle.specs.Answers.{label_in}
 use Rattle.tn_cycle.specs.declared.answer.Path.{Path}
 use Rattle.tn_cycle.specs.declared.answer.Path.TheVariants as path
-use Rattle.tn_network.specs.Along.{along}
-use Rattle.tn_network.specs.Kept.{IsKept}
+use Rattle.tn_network_laws.specs.Along.{along}
+use Rattle.tn_network_laws.specs.Kept.{IsKept}
 
 -- a graph and a finder have room for so many trades and null
-pub record HaveRoom (count : ℕ) (graph : Blocks) (finder : Reading) : Type 0 where
+pub record HaveRoom (count : ℕ) (graph : CostBlocks) (finder : Reading) : Type 0 where
   pub graph_sized : graph.nodes ≡ count + 1
   pub finder_sized : finder.nodes ≡ count + 1
 
@@ -27,7 +27,7 @@ pub record AreKept (firms : List Firm) (trades : List Ends) (allowed on : ℕ) (
 
 -- the graph is the exchange graph at the set that is on, among the admitted trades and null; the set is what a round
 -- leaves with the admitted trades, and so are the labels
-pub record AreUnderWay (firms : List Firm) (trades : List Ends) (graph : Blocks) (finder : Reading)
+pub record AreUnderWay (firms : List Firm) (trades : List Ends) (graph : CostBlocks) (finder : Reading)
     (allowed on : ℕ) : Type 0 where
   pub arcs : IsExchangeAmong firms trades on allowed graph
   pub sized : finder.nodes ≡ length trades + 1

@@ -13,10 +13,10 @@ ghost use Rattle.tn_cycle.specs.Widths.{label_step, most_label};
 ghost use Rattle.tn_graph.specs.Reading.{IsExchangeAmong};
 ghost use Rattle.tn_market.specs.Graph.{exchange_arc, graph_worths};
 ghost use Rattle.tn_market.specs.Widths.{most_market_trades};
-ghost use Rattle.tn_network.specs.Along.{along};
-ghost use Rattle.tn_network.specs.Laws.{MeetExchange};
-ghost use Rattle.tn_plain_data.specs.Network.{IsNetwork};
-ghost use Rattle.tn_network.specs.Kept.{IsKept};
+ghost use Rattle.tn_network_laws.specs.Along.{along};
+ghost use Rattle.tn_network_laws.specs.Laws.{MeetExchange};
+ghost use Rattle.tn_model.specs.Network.{IsNetwork};
+ghost use Rattle.tn_network_laws.specs.Kept.{IsKept};
 ghost use Rattle.tn_flow.specs.Underway.{HaveRoom, AreUnderWay, IsNext};
 ghost use Rattle.tn_market.specs.NetworkOf.{network_of};
 

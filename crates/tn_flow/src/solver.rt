@@ -3,7 +3,7 @@
 ghost use Rattle.std.specs.Prelude.{◌≡◌, ℕ, ◌+◌, ◌-◌, ◌*◌, ◌≤◌, ◌<◌, pos, true, Some, length, map, slice_get, IfOk};
 ghost use Rattle.tn_base.specs.Sets.{has, set_of};
 ghost use Rattle.tn_base.specs.Widths.{most_cost, most_limbs};
-ghost use Rattle.tn_plain_data.specs.Prices.{price_at};
+ghost use Rattle.tn_model.specs.Prices.{price_at};
 ghost use Rattle.tn_market.specs.Equilibrium.{IsEquilibrium};
 ghost use Rattle.tn_market.specs.Graph.{graph_worths};
 ghost use Rattle.tn_market.specs.Limits.{AreWorthsWithin};

@@ -9,14 +9,14 @@ use Rattle.tn_base.specs.Walks.{is_admitted}
 use Rattle.tn_base.specs.Firm.{Firm}
 use Rattle.tn_base.proofs.SetLemmas.{has-zero, has-toggle_other, set_of_within}
 use Rattle.tn_base.proofs.SizeLemmas.{size-toggle_out}
-use Rattle.tn_law.specs.Places.{level, trade_level}
-use Rattle.tn_law.proofs.PlaceLemmas.{level-trade}
-use Rattle.tn_plain_data.specs.declared.ends.Ends.{Ends}
-use Rattle.tn_plain_data.specs.Network.{own, part, IsNetwork}
+use Rattle.tn_firm_laws.specs.Places.{level, trade_level}
+use Rattle.tn_firm_laws.proofs.PlaceLemmas.{level-trade}
+use Rattle.tn_model.specs.declared.ends.Ends.{Ends}
+use Rattle.tn_model.specs.Network.{own, part, IsNetwork}
 use Rattle.tn_market.specs.Graph.{raised, lowered, raised_by, lowered_by, exchange_arc}
 use Rattle.tn_market.specs.ArcPlaces.{node_at, arc_firm, common_firm}
 use Rattle.tn_market.proofs.GraphLemmas.{node_at-trade, node_at-null, has-part, IsEnd, seller_end, buyer_end, end_level, raised_own, lowered_own, IsMoveOf, move_of_arc, no_arc, same_firm}
-use Rattle.tn_graph.specs.Blocks.{Blocks, arcs_of}
+use Rattle.tn_graph.specs.Blocks.{CostBlocks, arcs_of}
 use Rattle.tn_graph.specs.Layout.{IsLaidOut}
 use Rattle.tn_graph.specs.Reading.{IsStand, partners, IsExchangeAmong, IsWithoutArcs, IsAskedPosition, CanMove, Improves, HasLine, is_asked, admitted_count}
 use Rattle.tn_graph.proofs.AskedLemmas.{asked_from_own}
@@ -63,7 +63,7 @@ admitted_of_more null fewer more inside v is = by (v == null) (has fewer v) refl
         from_null false m h = absurd (cc h)
 
 -- among fewer trades the graph is right as well
-pub among_fewer : (firms : List Firm) (trades : List Ends) (on fewer more : ℕ) (graph : Blocks)
+pub among_fewer : (firms : List Firm) (trades : List Ends) (on fewer more : ℕ) (graph : CostBlocks)
     → ((k : ℕ) → has fewer k ≡ true → has more k ≡ true) → IsExchangeAmong firms trades on more graph
     → IsExchangeAmong firms trades on fewer graph
 among_fewer firms trades on fewer more graph inside right = record {
@@ -75,7 +75,7 @@ among_fewer firms trades on fewer more graph inside right = record {
 }
 
 -- among none a graph without arcs is right
-pub among_none : (firms : List Firm) (trades : List Ends) (on admitted : ℕ) (graph : Blocks) → admitted ≡ 0
+pub among_none : (firms : List Firm) (trades : List Ends) (on admitted : ℕ) (graph : CostBlocks) → admitted ≡ 0
     → IsWithoutArcs (length trades + 1) graph → IsLaidOut trades (has on) graph.places
     → IsExchangeAmong firms trades on admitted graph
 among_none firms trades on admitted graph none without laid_out = record {
@@ -234,7 +234,7 @@ to_seller firms trades network on t f trade u is off at = elim (cases_lt at.to a
 ]
 
 -- the line of place k of firm f has the arcs from its own place, or to it
-abbrev pub HasLineAt : List Firm → List Ends → ℕ → ℕ → ℕ → Bool → ℕ → Blocks → Type 0
+abbrev pub HasLineAt : List Firm → List Ends → ℕ → ℕ → ℕ → Bool → ℕ → CostBlocks → Type 0
 HasLineAt firms trades on admitted f rises k graph = (firm : Firm) → slice_get firms f ≡ Some firm
     → HasLine firms trades on f firm.count firm (part trades f firm.count on)
     (part trades f firm.count admitted) rises k
@@ -242,7 +242,7 @@ HasLineAt firms trades on admitted f rises k graph = (firm : Firm) → slice_get
 
 -- the same of firms that code may ask
 pub line_of_values : {V : Type 0} (firm_of : V → Firm) (values : List V) (trades : List Ends) (on admitted f : ℕ)
-    (rises : Bool) (k : ℕ) (graph : Blocks)
+    (rises : Bool) (k : ℕ) (graph : CostBlocks)
     → ((v : V) → slice_get values f ≡ Some v → HasLine (map firm_of values) trades on f (firm_of v).count (firm_of v)
     (part trades f (firm_of v).count on) (part trades f (firm_of v).count admitted) rises k graph)
     → HasLineAt (map firm_of values) trades on admitted f rises k graph
@@ -262,7 +262,7 @@ line_of_values firm_of values trades on admitted f rises k graph lines firm list
 -- once the lines of its two firms are read, the graph is right with the trade
 pub admitted_right : (firms : List Firm) (trades : List Ends) → IsNetwork firms trades
     → (on admitted t : ℕ) (trade : Ends)
-    → slice_get trades t ≡ Some trade → has on t ≡ false → (first middle last : Blocks)
+    → slice_get trades t ≡ Some trade → has on t ≡ false → (first middle last : CostBlocks)
     → IsExchangeAmong firms trades on (toggle admitted t) first
     → Improves (exchange_arc firms trades on) first middle
     → HasLineAt firms trades on admitted trade.seller false trade.at_seller middle

@@ -5,9 +5,9 @@ use Rattle.std.proofs.lemmas.Bool.{cases_lt, cases_order, lt-ltb, le-ltb}
 use Rattle.std.proofs.lemmas.List.{get_or-set_same, get_or-set_other, get_or-replicate, get_or_past, length-replicate}
 use Rattle.std.proofs.lemmas.Nat.{mul-add-lt, same_from_place}
 use Rattle.tn_graph.specs.declared.spot.Spot.{Spot}
-use Rattle.tn_graph.specs.Blocks.{Blocks, Places, AreOneOrApart, spot_at, block_size, place_in, place_of, node_in, cost_at, arcs_of}
+use Rattle.tn_graph.specs.Blocks.{CostBlocks, Places, AreOneOrApart, spot_at, block_size, place_in, place_of, node_in, cost_in_cell, arcs_of}
 use Rattle.tn_graph.specs.BlockLemmas.{PlaceCases, place_cases}
-use Rattle.tn_graph.specs.Reading.{IsWithoutArcs, IsWritten}
+use Rattle.tn_graph.specs.Reading.{IsCostWritten, IsWithoutArcs}
 
 -- ---- places
 
@@ -29,7 +29,7 @@ place_inside n row column row_in column_in one = elim (cases_lt row n) [
 ]
 
 -- the row and the column of the cost of an arc, in a block
-pub record PlaceAt (graph : Blocks) (u v place : ℕ) : Type 0 where
+pub record PlaceAt (graph : CostBlocks) (u v place : ℕ) : Type 0 where
   pub rises : Bool
   pub trade : ℕ
   pub laid : trade < graph.places.laid
@@ -54,14 +54,14 @@ node_in-null places spot =
     (le-ltb spot.count spot.count (omega arith))
 
 -- a trade stands at its position
-node_in-own : (graph : Blocks) (rises : Bool) (t : ℕ) → t < graph.places.laid
+node_in-own : (graph : CostBlocks) (rises : Bool) (t : ℕ) → t < graph.places.laid
     → node_in graph.places (spot_at graph.places rises t) (spot_at graph.places rises t).position ≡ t
 node_in-own graph rises t laid =
     let there = graph.sound.spots rises t laid in
     node_in-trade graph.places (spot_at graph.places rises t) (spot_at graph.places rises t).position there.below
     ∙ there.owns
 
-pub place_at : (graph : Blocks) (u v place : ℕ) → place_of graph.nodes graph.places u v ≡ Some place
+pub place_at : (graph : CostBlocks) (u v place : ℕ) → place_of graph.nodes graph.places u v ≡ Some place
     → PlaceAt graph u v place
 place_at graph u v place is = by_case (place_cases graph u v place is)
   where
@@ -125,7 +125,7 @@ place_at graph u v place is = by_case (place_cases graph u v place is)
         }
 
 -- the place of a cost lies in its block
-place_below : (graph : Blocks) (u v place : ℕ) (at : PlaceAt graph u v place)
+place_below : (graph : CostBlocks) (u v place : ℕ) (at : PlaceAt graph u v place)
     → place < (spot_at graph.places at.rises at.trade).start
     + block_size (spot_at graph.places at.rises at.trade).count
 place_below graph u v place at =
@@ -134,7 +134,7 @@ place_below graph u v place at =
     omega (arith, inside, at.is)
 
 -- two arcs have one place only where they are one
-pub same_arc : (graph : Blocks) (a b u v place : ℕ) → PlaceAt graph a b place → PlaceAt graph u v place
+pub same_arc : (graph : CostBlocks) (a b u v place : ℕ) → PlaceAt graph a b place → PlaceAt graph u v place
     → (a ≡ u) × (b ≡ v)
 same_arc graph a b u v place first second = elim (cases_order one.start other.start) [
   | inl same ↦
@@ -180,28 +180,28 @@ same_arc graph a b u v place first second = elim (cases_order one.start other.st
 
 -- ---- costs
 
-pub arc_at : (graph : Blocks) (u v place : ℕ) → place_of graph.nodes graph.places u v ≡ Some place
-    → arcs_of graph u v ≡ cost_at (get_or graph.cells place (pos (2 ^ 63)))
+pub arc_at : (graph : CostBlocks) (u v place : ℕ) → place_of graph.nodes graph.places u v ≡ Some place
+    → arcs_of graph u v ≡ cost_in_cell (get_or graph.cells place (pos (2 ^ 63)))
 unfolding arcs_of
 arc_at graph u v place is =
-    ap (option_and_then (λ (p : ℕ). cost_at (get_or graph.cells p (pos (2 ^ 63))))) is
+    ap (option_and_then (λ (p : ℕ). cost_in_cell (get_or graph.cells p (pos (2 ^ 63))))) is
 
-pub arc_none : (graph : Blocks) (u v : ℕ) → place_of graph.nodes graph.places u v ≡ None → arcs_of graph u v ≡ None
+pub arc_none : (graph : CostBlocks) (u v : ℕ) → place_of graph.nodes graph.places u v ≡ None → arcs_of graph u v ≡ None
 unfolding arcs_of
 arc_none graph u v none =
-    ap (option_and_then (λ (p : ℕ). cost_at (get_or graph.cells p (pos (2 ^ 63))))) none
+    ap (option_and_then (λ (p : ℕ). cost_in_cell (get_or graph.cells p (pos (2 ^ 63))))) none
 
 -- a number that is written is the cost of its arc, and of no other
-pub one_written : (before after : Blocks) (a b place : ℕ) (number : ℤ) (cost : Option ℤ)
+pub one_written : (before after : CostBlocks) (a b place : ℕ) (number : ℤ) (cost : Option ℤ)
     → after.nodes ≡ before.nodes → after.places ≡ before.places → after.cells ≡ set before.cells place number
-    → place_of before.nodes before.places a b ≡ Some place → place < length before.cells → cost_at number ≡ cost
-    → IsWritten before a b cost after
+    → place_of before.nodes before.places a b ≡ Some place → place < length before.cells → cost_in_cell number ≡ cost
+    → IsCostWritten before a b cost after
 one_written before after a b place number cost nodes places cells is inside number_is = record {
   nodes = nodes;
   places = places;
   here = arc_at after a b place (same a b ∙ is)
-      ∙ ap (λ (xs : List ℤ). cost_at (get_or xs place (pos (2 ^ 63)))) cells
-      ∙ ap cost_at (get_or-set_same before.cells place number (pos (2 ^ 63)) inside) ∙ number_is;
+      ∙ ap (λ (xs : List ℤ). cost_in_cell (get_or xs place (pos (2 ^ 63)))) cells
+      ∙ ap cost_in_cell (get_or-set_same before.cells place number (pos (2 ^ 63)) inside) ∙ number_is;
   elsewhere = λ u v other. by_case u v other (place_of before.nodes before.places u v) refl;
 }
   where
@@ -213,15 +213,15 @@ one_written before after a b place number cost nodes places cells is inside numb
     by_case u v other None none = arc_none after u v (same u v ∙ none) ∙ sym (arc_none before u v none)
     by_case u v other (Some at) some =
         arc_at after u v at (same u v ∙ some)
-        ∙ ap (λ (xs : List ℤ). cost_at (get_or xs at (pos (2 ^ 63)))) cells
-        ∙ ap cost_at (get_or-set_other before.cells place at number (pos (2 ^ 63)) (λ e.
+        ∙ ap (λ (xs : List ℤ). cost_in_cell (get_or xs at (pos (2 ^ 63)))) cells
+        ∙ ap cost_in_cell (get_or-set_other before.cells place at number (pos (2 ^ 63)) (λ e.
         let one = same_arc before u v a b place (place_at before u v place (some ∙ ap (λ (p : ℕ). Some p) e))
         (place_at before a b place is) in other one.0 one.1))
         ∙ sym (arc_at before u v at some)
 
 -- where an arc has no place, that there is none need not be written
-pub none_written : (graph : Blocks) (a b : ℕ) (cost : Option ℤ) → place_of graph.nodes graph.places a b ≡ None
-    → cost ≡ None → IsWritten graph a b cost graph
+pub none_written : (graph : CostBlocks) (a b : ℕ) (cost : Option ℤ) → place_of graph.nodes graph.places a b ≡ None
+    → cost ≡ None → IsCostWritten graph a b cost graph
 none_written graph a b cost none is = record {
   nodes = refl;
   places = refl;
@@ -230,28 +230,28 @@ none_written graph a b cost none is = record {
 }
 
 -- the number of no arc stands for none
-none_at : cost_at (pos (2 ^ 63 - 1)) ≡ None
-unfolding cost_at
+none_at : cost_in_cell (pos (2 ^ 63 - 1)) ≡ None
+unfolding cost_in_cell
 none_at = refl
 
-none_past : cost_at (pos (2 ^ 63)) ≡ None
-unfolding cost_at
+none_past : cost_in_cell (pos (2 ^ 63)) ≡ None
+unfolding cost_in_cell
 none_past = refl
 
 -- such numbers alone are no arcs
-pub no_arcs : (graph : Blocks) (size : ℕ) → graph.cells ≡ replicate size (pos (2 ^ 63 - 1))
+pub no_arcs : (graph : CostBlocks) (size : ℕ) → graph.cells ≡ replicate size (pos (2 ^ 63 - 1))
     → IsWithoutArcs graph.nodes graph
 no_arcs graph size all = record {
   nodes = refl;
   none = λ u v. by_case u v (place_of graph.nodes graph.places u v) refl;
 }
   where
-    none_of : (place : ℕ) → cost_at (get_or (replicate size (pos (2 ^ 63 - 1))) place (pos (2 ^ 63))) ≡ None
+    none_of : (place : ℕ) → cost_in_cell (get_or (replicate size (pos (2 ^ 63 - 1))) place (pos (2 ^ 63))) ≡ None
     none_of place = elim (cases_lt place size) [
-      | inl below ↦ ap cost_at (get_or-replicate size place (pos (2 ^ 63 - 1)) (pos (2 ^ 63)) below) ∙ none_at
+      | inl below ↦ ap cost_in_cell (get_or-replicate size place (pos (2 ^ 63 - 1)) (pos (2 ^ 63)) below) ∙ none_at
       | inr past ↦
           let long = length-replicate size (pos (2 ^ 63 - 1)) in
-          ap cost_at (get_or_past (replicate size (pos (2 ^ 63 - 1))) place (pos (2 ^ 63)) (omega (arith, past, long)))
+          ap cost_in_cell (get_or_past (replicate size (pos (2 ^ 63 - 1))) place (pos (2 ^ 63)) (omega (arith, past, long)))
           ∙ none_past
     ]
 
@@ -259,7 +259,7 @@ no_arcs graph size all = record {
     by_case u v None none = arc_none graph u v none
     by_case u v (Some place) some =
         arc_at graph u v place some
-        ∙ ap (λ (xs : List ℤ). cost_at (get_or xs place (pos (2 ^ 63)))) all ∙ none_of place
+        ∙ ap (λ (xs : List ℤ). cost_in_cell (get_or xs place (pos (2 ^ 63)))) all ∙ none_of place
 
 -- where an arc has no place, there is no cost to be written
 pub no_cost : (cost : Option ℤ) (place : Option ℕ) → place ≡ None → IfSome cost (λ _. IsSome place) → cost ≡ None

@@ -4,9 +4,9 @@ use Rattle.std.specs.Prelude.{nat_lt, ◌&&◌}
 use mathlib.Core.Bool.{beq}
 use Rattle.std.proofs.lemmas.Bool.{cases_eq, eqb-true, eq-eqb, lt-ltb, le-ltb, or_cases, or_parts}
 use Rattle.tn_base.specs.Sets.{has}
-use Rattle.tn_plain_data.specs.declared.ends.Ends.{Ends}
+use Rattle.tn_model.specs.declared.ends.Ends.{Ends}
 use Rattle.tn_graph.specs.declared.spot.Spot.{Spot}
-use Rattle.tn_graph.specs.Blocks.{Blocks, Places, spot_at, place_between, place_of, cost_at, arcs_of, listed_count, listed_at}
+use Rattle.tn_graph.specs.Blocks.{CostBlocks, Places, spot_at, place_between, place_of, cost_in_cell, arcs_of, listed_count, listed_at}
 use Rattle.tn_graph.specs.BlockLemmas.{arcs_of-predecessors, arcs_of-successors}
 use Rattle.tn_graph.specs.Layout.{IsLaidOut, IsTurned}
 use Rattle.tn_graph.specs.Reading.{IsCut, arc_beside, AreForgotten, is_toggled}
@@ -16,14 +16,14 @@ use Rattle.tn_graph.proofs.ReadingLemmas.{below_same, differs_is, differs_not, f
 -- ---- one node
 
 -- the arcs between node t and the first k of its block are gone
-pub record IsCutTo (from : Bool) (t k : ℕ) (before graph : Blocks) : Type 0 where
+pub record IsCutTo (from : Bool) (t k : ℕ) (before graph : CostBlocks) : Type 0 where
   pub nodes : graph.nodes ≡ before.nodes
   pub places : graph.places ≡ before.places
   pub gone : (i : ℕ) → i < k → arc_beside graph from t (listed_at before.places from t i) ≡ None
   pub kept : (u v : ℕ) → (if from then u else v) ≢ t → arcs_of graph u v ≡ arcs_of before u v
 
 -- no arc is left where all nodes of the block are past
-pub cut_all : (from : Bool) (t k : ℕ) (before graph : Blocks) → IsCutTo from t k before graph → t < before.nodes
+pub cut_all : (from : Bool) (t k : ℕ) (before graph : CostBlocks) → IsCutTo from t k before graph → t < before.nodes
     → listed_count before.places from t ≤ k → IsCut from t before graph
 cut_all from t k before graph cut inside past = record {
   nodes = cut.nodes;
@@ -56,13 +56,13 @@ cut_all from t k before graph cut inside past = record {
 -- ---- a trade that changes its firms
 
 -- the arcs without it stay
-arcs_turned : (t : ℕ) (before after : Blocks) → after.nodes ≡ before.nodes → after.cells ≡ before.cells
+arcs_turned : (t : ℕ) (before after : CostBlocks) → after.nodes ≡ before.nodes → after.cells ≡ before.cells
     → IsTurned t before.places after.places → (u v : ℕ) → u ≢ t → v ≢ t → arcs_of after u v ≡ arcs_of before u v
 unfolding arcs_of place_of
 arcs_turned t before after nodes cells turned u v u_apart v_apart =
-    ap (λ (xs : List ℤ). option_and_then (λ (p : ℕ). cost_at (get_or xs p (pos (2 ^ 63))))
+    ap (λ (xs : List ℤ). option_and_then (λ (p : ℕ). cost_in_cell (get_or xs p (pos (2 ^ 63))))
     (place_of after.nodes after.places u v)) cells
-    ∙ ap (option_and_then (λ (p : ℕ). cost_at (get_or before.cells p (pos (2 ^ 63))))) place
+    ∙ ap (option_and_then (λ (p : ℕ). cost_in_cell (get_or before.cells p (pos (2 ^ 63))))) place
   where
     between : Spot → Spot → ℕ → Option ℕ
     between from to laid = place_between from to (nat_lt u laid) (nat_lt v laid)
@@ -75,7 +75,7 @@ arcs_turned t before after nodes cells turned u v u_apart v_apart =
         (turned.elsewhere false v v_apart)
         ∙ ap (between (spot_at before.places true u) (spot_at before.places false v)) turned.laid)
 
-pub detached : (t : ℕ) (before middle first after : Blocks) → middle.nodes ≡ before.nodes
+pub detached : (t : ℕ) (before middle first after : CostBlocks) → middle.nodes ≡ before.nodes
     → middle.cells ≡ before.cells → IsTurned t before.places middle.places → IsCut true t middle first
     → IsCut false t first after → AreForgotten (λ k. k == t) before after
 detached t before middle first after nodes cells turned one two = record {
@@ -124,11 +124,11 @@ where_equal true false e = absurd (cc e)
 where_equal false true e = absurd (cc e)
 
 -- those below t of the toggled trades are detached
-pub record AreDetached (trades : List Ends) (before on t : ℕ) (first graph : Blocks) : Type 0 where
+pub record AreDetached (trades : List Ends) (before on t : ℕ) (first graph : CostBlocks) : Type 0 where
   pub forgotten : AreForgotten (is_toggled t before on) first graph
   pub laid_out : IsLaidOut trades (mixed before on t) graph.places
 
-pub detached_none : (trades : List Ends) (before on : ℕ) (graph : Blocks)
+pub detached_none : (trades : List Ends) (before on : ℕ) (graph : CostBlocks)
     → IsLaidOut trades (has before) graph.places → AreDetached trades before on 0 graph graph
 detached_none trades before on graph laid = record {
   forgotten = forgotten_none (is_toggled 0 before on) graph (toggled_none before on);
@@ -136,7 +136,7 @@ detached_none trades before on graph laid = record {
       ap (λ (b : Bool). if b then has on k else has before k) (le-ltb k 0 (omega arith)));
 }
 
-pub detached_more : (trades : List Ends) (before on t : ℕ) (first graph after : Blocks)
+pub detached_more : (trades : List Ends) (before on t : ℕ) (first graph after : CostBlocks)
     → AreDetached trades before on t first graph → has before t ≢ has on t
     → AreForgotten (λ k. k == t) graph after → IsTurned t graph.places after.places
     → AreDetached trades before on (t + 1) first after
@@ -154,7 +154,7 @@ detached_more trades before on t first graph after done apart forgotten turned =
     other false true d = refl
     other false false d = absurd (d refl)
 
-pub detached_same : (trades : List Ends) (before on t : ℕ) (first graph : Blocks)
+pub detached_same : (trades : List Ends) (before on t : ℕ) (first graph : CostBlocks)
     → AreDetached trades before on t first graph → has before t ≡ has on t
     → AreDetached trades before on (t + 1) first graph
 detached_same trades before on t first graph done same = record {
@@ -168,7 +168,7 @@ detached_same trades before on t first graph done same = record {
       ]);
 }
 
-pub detached_all : (trades : List Ends) (before on t : ℕ) (first graph : Blocks) → t ≡ length trades
+pub detached_all : (trades : List Ends) (before on t : ℕ) (first graph : CostBlocks) → t ≡ length trades
     → AreDetached trades before on t first graph
     → AreForgotten (is_toggled (length trades) before on) first graph × IsLaidOut trades (has on) graph.places
 detached_all trades before on t first graph all done = (
@@ -178,7 +178,7 @@ detached_all trades before on t first graph all done = (
 )
 
 -- what is listed is a node
-pub listed_node : (from : Bool) (t k u count : ℕ) (before graph : Blocks) → IsCutTo from t k before graph
+pub listed_node : (from : Bool) (t k u count : ℕ) (before graph : CostBlocks) → IsCutTo from t k before graph
     → t < before.nodes → count ≡ listed_count before.places from t → k < count → u ≡ listed_at graph.places from t k
     → u < graph.nodes
 listed_node from t k u count before graph cut inside count_is below u_is =

@@ -3,9 +3,9 @@ use Rattle.std.proofs.Common.{◌≡◌, ℕ, ◌<◌, Bool, true, false, not, i
 use Rattle.std.proofs.lemmas.Option.{same_Some}
 use Rattle.tn_base.specs.Sets.{has}
 use Rattle.tn_base.specs.Firm.{Firm}
-use Rattle.tn_law.specs.Places.{trade_level}
-use Rattle.tn_plain_data.specs.declared.ends.Ends.{Ends}
-use Rattle.tn_plain_data.specs.Network.{own, part, IsNetwork}
+use Rattle.tn_firm_laws.specs.Places.{trade_level}
+use Rattle.tn_model.specs.declared.ends.Ends.{Ends}
+use Rattle.tn_model.specs.Network.{own, part, IsNetwork}
 use Rattle.tn_market.specs.Graph.{raised as raised_end}
 use Rattle.tn_market.proofs.GraphLemmas.{IsEnd, raised_end as end_raised, has-part, raised_own, lowered_own}
 use Rattle.tn_graph.specs.Layout.{end_of}

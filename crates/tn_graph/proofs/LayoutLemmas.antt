@@ -5,14 +5,14 @@ use Rattle.std.proofs.lemmas.List.{length-set, get_or-set_same, get_or-set_other
 use Rattle.std.proofs.lemmas.Option.{same_Some, some_pair_parts, slice_get_cases, slice_get_within, slice_get_past}
 use Rattle.tn_base.specs.Sets.{has}
 use Rattle.tn_base.specs.Firm.{Firm}
-use Rattle.tn_plain_data.specs.declared.ends.Ends.{Ends}
-use Rattle.tn_plain_data.specs.Network.{own, IsNetwork}
+use Rattle.tn_model.specs.declared.ends.Ends.{Ends}
+use Rattle.tn_model.specs.Network.{own, IsNetwork}
 use Rattle.tn_market.specs.Graph.{raised as raised_end}
 use Rattle.tn_market.specs.Widths.{most_market_trades}
 use Rattle.tn_market.proofs.GraphLemmas.{same_firm}
 use Rattle.tn_graph.specs.declared.spot.Spot.{Spot}
-use Rattle.tn_graph.specs.Blocks.{Places, IsSound, IsSpotOf, AreOneOrApart, spot_at, no_spot, block_size, room_of}
-use Rattle.tn_graph.specs.Layout.{end_of, IsLaidOut, IsTurned, IsLaidTo, IsBefore, own_before, room_before, spot_for}
+use Rattle.tn_graph.specs.Blocks.{Places, HasRoomForBlocks, IsSpotOf, AreOneOrApart, spot_at, no_spot, block_size, room_of}
+use Rattle.tn_graph.specs.Layout.{end_of, IsLaidOut, IsTurned, IsLaidTo, IsLaidBefore, own_before, room_before, spot_for}
 use Rattle.tn_graph.proofs.EndLemmas.{end_owned, one_end}
 use Rattle.tn_graph.proofs.RoomLemmas.{sum_next, sum_past, own_few, own_once, room_few, room_small}
 
@@ -29,7 +29,7 @@ laid_none firms trades on raised lowered owned raised_sized lowered_sized own_si
   owns = λ g j d firm is before inside. absurd (never g j before);
 }
   where
-    never : (g j : ℕ) → IsBefore 0 0 g j → ⊥
+    never : (g j : ℕ) → IsLaidBefore 0 0 g j → ⊥
     never g j (inl p) = absurd (omega (arith, p))
     never g j (inr p) = let q = p.1 in absurd (omega (arith, q))
 
@@ -50,8 +50,8 @@ laid_next firms trades network on f k firm is all raised lowered owned laid = re
       laid.owns g j d other other_is (earlier g j other other_is inside before) inside;
 }
   where
-    earlier : (g j : ℕ) (other : Firm) → slice_get firms g ≡ Some other → j < other.count → IsBefore (f + 1) 0 g j
-        → IsBefore f k g j
+    earlier : (g j : ℕ) (other : Firm) → slice_get firms g ≡ Some other → j < other.count → IsLaidBefore (f + 1) 0 g j
+        → IsLaidBefore f k g j
     earlier g j other other_is inside (inr p) = let q = p.1 in absurd (omega (arith, q))
     earlier g j other other_is inside (inl p) = elim (cases_eq g f) [
       | inr d ↦ inl (omega (arith, p, d))
@@ -130,7 +130,7 @@ laid_more firms trades network on f k firm is inside f_in raised lowered owned l
     other_long true xs ys u long = long
     other_long false xs ys u long = length-set ys u spot ∙ long
 
-    split : (g j : ℕ) → IsBefore f (k + 1) g j → IsBefore f k g j ⊎ ((g ≡ f) × (j ≡ k))
+    split : (g j : ℕ) → IsLaidBefore f (k + 1) g j → IsLaidBefore f k g j ⊎ ((g ≡ f) × (j ≡ k))
     split g j (inl p) = inl (inl p)
     split g j (inr p) = elim (cases_eq j k) [
       | inl e ↦ inr (p.0, e)
@@ -140,11 +140,11 @@ laid_more firms trades network on f k firm is inside f_in raised lowered owned l
     pair : (g j : ℕ) → ◌≡◌ {A = Option (ℕ × ℕ)} (Some (f, k)) (Some (g, j)) → (f ≡ g) × (k ≡ j)
     pair g j e = some_pair_parts f g k j e
 
-    not_here : (g j : ℕ) → IsBefore f k g j → (f ≡ g) × (k ≡ j) → ⊥
+    not_here : (g j : ℕ) → IsLaidBefore f k g j → (f ≡ g) × (k ≡ j) → ⊥
     not_here g j (inl p) same = let e = same.0 in absurd (omega (arith, p, e))
     not_here g j (inr p) same = let e = same.1 in let q = p.1 in absurd (omega (arith, q, e))
 
-    apart : (g j : ℕ) (other : Firm) → slice_get firms g ≡ Some other → j < other.count → IsBefore f k g j
+    apart : (g j : ℕ) (other : Firm) → slice_get firms g ≡ Some other → j < other.count → IsLaidBefore f k g j
         → own_before firms g + j ≢ own_before firms f + k
     apart g j other other_is below (inl p) e =
         let past = sum_past (λ firm. firm.count) firms g f other other_is p in
@@ -302,7 +302,7 @@ module _ (firms : List Firm) (trades : List Ends) (network : IsNetwork firms tra
   -- a graph with these places is sound
   pub sound : ((f : ℕ) (firm : Firm) → slice_get firms f ≡ Some firm → firm.count ≤ 64) → (cells : List ℤ)
       → length trades ≤ most_market_trades
-      → length cells ≡ room_of (length trades + 1) → IsSound (length trades + 1) places cells
+      → length cells ≡ room_of (length trades + 1) → HasRoomForBlocks (length trades + 1) places cells
   sound each cells few sized = record {
     few = omega (arith, few);
     laid_few = omega arith;
@@ -417,10 +417,10 @@ turned_is places t raised lowered raised_long lowered_long raised_is lowered_is 
 
 -- are sound as they were
 pub turned_sound : (nodes t : ℕ) (places : Places) (cells : List ℤ) (raised lowered : List Spot)
-    → IsSound nodes places cells
+    → HasRoomForBlocks nodes places cells
     → IsTurned t places (record { laid = places.laid; raised = raised; lowered = lowered; own = places.own })
     → length raised ≡ nodes → length lowered ≡ nodes
-    → IsSound nodes (record { laid = places.laid; raised = raised; lowered = lowered; own = places.own }) cells
+    → HasRoomForBlocks nodes (record { laid = places.laid; raised = raised; lowered = lowered; own = places.own }) cells
 turned_sound nodes t places cells raised lowered sound turned raised_long lowered_long = record {
   few = sound.few;
   laid_few = sound.laid_few;

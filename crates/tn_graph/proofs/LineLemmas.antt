@@ -5,14 +5,14 @@ use Rattle.tn_base.specs.Sets.{has, toggle, size}
 use Rattle.tn_base.proofs.SetLemmas.{has-set_of, has_below, has-toggle_other, set_of_within, toggle_within}
 use Rattle.tn_base.proofs.SizeLemmas.{size-toggle_in}
 use Rattle.tn_base.specs.Firm.{Firm}
-use Rattle.tn_law.specs.Places.{trade_level, level, toggle_at, move, CanRise, CanFall}
-use Rattle.tn_law.proofs.PlaceLemmas.{level-trade, toggle_at-trade, toggle_at-null, toggle_at-order, trade_level-le}
-use Rattle.tn_plain_data.specs.declared.ends.Ends.{Ends}
-use Rattle.tn_plain_data.specs.Network.{own, part, IsNetwork}
+use Rattle.tn_firm_laws.specs.Places.{trade_level, level, toggle_at, move, CanRise, CanFall}
+use Rattle.tn_firm_laws.proofs.PlaceLemmas.{level-trade, toggle_at-trade, toggle_at-null, toggle_at-order, trade_level-le}
+use Rattle.tn_model.specs.declared.ends.Ends.{Ends}
+use Rattle.tn_model.specs.Network.{own, part, IsNetwork}
 use Rattle.tn_market.specs.Graph.{loss, exchange_arc}
 use Rattle.tn_market.specs.ArcPlaces.{node_at, AreArcPlaces}
 use Rattle.tn_market.proofs.GraphLemmas.{node_at-trade, arc_at, move_of_arc, same_firm}
-use Rattle.tn_graph.specs.Blocks.{Blocks, arcs_of}
+use Rattle.tn_graph.specs.Blocks.{CostBlocks, arcs_of}
 use Rattle.tn_market.specs.Valued.{HasToggledWorths}
 use Rattle.tn_graph.specs.Reading.{IsLineRead, partners, has_level, raised_place, lowered_place, CanMove, is_asked, Improves, IsStand, HasArc, HasLine, HasArcsAmong, HasArcsOf}
 use Rattle.tn_graph.proofs.AskedLemmas.{AreSpared, spared_none, spared_read, spared_skipped, size-mono, asked_own, asked_from_own}
@@ -173,16 +173,16 @@ unfolding move
 null_worth n x true k toggled is = is ∙ sym (toggle_at-null n (toggle_at n x k) n (omega arith))
 null_worth n x false k toggled is = is ∙ ap (λ (y : ℕ). toggle_at n y k) (sym (toggle_at-null n x n (omega arith)))
 
-pub line_start : (firms : List Firm) (trades : List Ends) (on f n : ℕ) (rises : Bool) (k others : ℕ) (graph : Blocks)
+pub line_start : (firms : List Firm) (trades : List Ends) (on f n : ℕ) (rises : Bool) (k others : ℕ) (graph : CostBlocks)
     → IsLineRead firms trades on f n rises k others graph 0 graph
 line_start firms trades on f n rises k others graph = record {
   improved = improves-none (exchange_arc firms trades on) graph;
   line = λ other h. absurd (omega (arith, h));
 }
 
-pub line_read : (firms : List Firm) (trades : List Ends) (on f n : ℕ) (rises : Bool) (k others : ℕ) (before : Blocks)
-    (j : ℕ) (graph : Blocks)
-    → IsLineRead firms trades on f n rises k others before j graph → (after : Blocks)
+pub line_read : (firms : List Firm) (trades : List Ends) (on f n : ℕ) (rises : Bool) (k others : ℕ) (before : CostBlocks)
+    (j : ℕ) (graph : CostBlocks)
+    → IsLineRead firms trades on f n rises k others before j graph → (after : CostBlocks)
     → Improves (exchange_arc firms trades on) graph after
     → HasArc firms trades on f n (raised_place rises k j) (lowered_place rises k j) after
     → IsLineRead firms trades on f n rises k others before (j + 1) after
@@ -196,8 +196,8 @@ line_read firms trades on f n rises k others before j graph read after improved 
   ];
 }
 
-pub line_skipped : (firms : List Firm) (trades : List Ends) (on f n : ℕ) (rises : Bool) (k others : ℕ) (before : Blocks)
-    (j : ℕ) (graph : Blocks)
+pub line_skipped : (firms : List Firm) (trades : List Ends) (on f n : ℕ) (rises : Bool) (k others : ℕ) (before : CostBlocks)
+    (j : ℕ) (graph : CostBlocks)
     → IsLineRead firms trades on f n rises k others before j graph → has others j ≡ false
     → IsLineRead firms trades on f n rises k others before (j + 1) graph
 line_skipped firms trades on f n rises k others before j graph read absent = record {
@@ -218,7 +218,7 @@ other_within firm x false k other places = (places.from_within, λ e. places.apa
 pub whole_line : (firms : List Firm) (trades : List Ends) (on f n : ℕ) (firm : Firm) (limit x : ℕ) (worth : ℤ)
     → IsStand firms trades on f n firm limit x worth
     → (rises : Bool) (k others asked : ℕ) → k ≤ n → others ≡ partners firm.buys x asked rises n
-    → (before graph after : Blocks) → IsLineRead firms trades on f n rises k others before n graph
+    → (before graph after : CostBlocks) → IsLineRead firms trades on f n rises k others before n graph
     → Improves (exchange_arc firms trades on) graph after
     → (k < n → HasArc firms trades on f n (raised_place rises k n) (lowered_place rises k n) after)
     → HasLine firms trades on f n firm x asked rises k after
@@ -272,19 +272,19 @@ line_few buys x asked rises n others k is within below there moves =
 
 -- the rows of the positions before k that are asked for and can be raised
 pub record AreRowsRead (firms : List Firm) (trades : List Ends) (on f n : ℕ) (firm : Firm) (x asked others : ℕ)
-    (before : Blocks) (steps_before k : ℕ) (graph : Blocks) (steps : ℕ) : Type 0 where
+    (before : CostBlocks) (steps_before k : ℕ) (graph : CostBlocks) (steps : ℕ) : Type 0 where
   pub improved : Improves (exchange_arc firms trades on) before graph
   pub rows : (i : ℕ) → i < k → has asked i ≡ true → HasLine firms trades on f n firm x asked true i graph
   pub spared : AreSpared asked others steps_before k steps
 
 -- what holds of a graph and a count holds of those that they are
-pub carried : (P : Blocks → ℕ → Type 0) (graph other : Blocks) (steps more : ℕ) → other ≡ graph → more ≡ steps
+pub carried : (P : CostBlocks → ℕ → Type 0) (graph other : CostBlocks) (steps more : ℕ) → other ≡ graph → more ≡ steps
     → P graph steps → P other more
 carried P graph other steps more one two holds =
-    subst (λ (z : Blocks). P z more) (sym one) (subst (P graph) (sym two) holds)
+    subst (λ (z : CostBlocks). P z more) (sym one) (subst (P graph) (sym two) holds)
 
 pub rows_none : (firms : List Firm) (trades : List Ends) (on f n : ℕ) (firm : Firm) (x asked others : ℕ)
-    (graph : Blocks) (steps : ℕ)
+    (graph : CostBlocks) (steps : ℕ)
     → AreRowsRead firms trades on f n firm x asked others graph steps 0 graph steps
 rows_none firms trades on f n firm x asked others graph steps = record {
   improved = improves-none (exchange_arc firms trades on) graph;
@@ -295,7 +295,7 @@ rows_none firms trades on f n firm x asked others graph steps = record {
 -- the lines that are right stay so
 pub line_stays : (firms : List Firm) (trades : List Ends) (on f n : ℕ) (firm : Firm) (x asked : ℕ) (rises : Bool)
     (k : ℕ)
-    (before after : Blocks) → Improves (exchange_arc firms trades on) before after
+    (before after : CostBlocks) → Improves (exchange_arc firms trades on) before after
     → HasLine firms trades on f n firm x asked rises k before → HasLine firms trades on f n firm x asked rises k after
 line_stays firms trades on f n firm x asked rises k before after improved line other counts places =
     stays_right (exchange_arc firms trades on) before after improved _ _ (line other counts places)
@@ -311,7 +311,7 @@ pub rows_more : (firms : List Firm) (trades : List Ends) (on f n : ℕ) (firm : 
     → IsStand firms trades on f n firm limit x worth
     → (asked others k : ℕ) → others ≡ partners firm.buys x asked true n → asked < 2 ^ n → k < n
     → has asked k ≡ true → CanMove true n (level n firm.buys x) k
-    → (first before : Blocks) (steps_first steps more : ℕ) (after : Blocks)
+    → (first before : CostBlocks) (steps_first steps more : ℕ) (after : CostBlocks)
     → AreRowsRead firms trades on f n firm x asked others first steps_first k before steps
     → Improves (exchange_arc firms trades on) before after
     → HasLine firms trades on f n firm x asked true k after → more ≡ steps + size others + 1
@@ -334,7 +334,7 @@ pub rows_same : (firms : List Firm) (trades : List Ends) (on f n : ℕ) (firm : 
     → IsStand firms trades on f n firm limit x worth
     → (asked others k : ℕ) → others ≡ partners firm.buys x asked true n → k < n
     → (is_row : Bool) → is_row ≡ (has asked k && has_level firm.buys x false k) → is_row ≡ false
-    → (first : Blocks) (steps_first steps : ℕ) (graph : Blocks)
+    → (first : CostBlocks) (steps_first steps : ℕ) (graph : CostBlocks)
     → AreRowsRead firms trades on f n firm x asked others first steps_first k graph steps
     → AreRowsRead firms trades on f n firm x asked others first steps_first (k + 1) graph steps
 rows_same firms trades on f n firm limit x worth stand asked others k is below is_row tested absent first steps_first
@@ -360,7 +360,7 @@ rows_same firms trades on f n firm limit x worth stand asked others k is below i
 -- all rows are all arcs of the firm that are asked for
 pub all_rows : (firms : List Firm) (trades : List Ends) (on f n : ℕ) (firm : Firm) (limit x : ℕ) (worth : ℤ)
     → IsStand firms trades on f n firm limit x worth
-    → (asked others : ℕ) (first before after : Blocks) (steps_first steps : ℕ)
+    → (asked others : ℕ) (first before after : CostBlocks) (steps_first steps : ℕ)
     → AreRowsRead firms trades on f n firm x asked others first steps_first n before steps
     → Improves (exchange_arc firms trades on) before after
     → HasLine firms trades on f n firm x asked true n after
@@ -379,7 +379,7 @@ all_rows firms trades on f n firm limit x worth stand asked others first before 
 
 -- arcs of a firm between nodes that count are between places that are asked for
 pub arcs_counted : (firms : List Firm) (trades : List Ends) → IsNetwork firms trades → (on f : ℕ) (firm : Firm)
-    → slice_get firms f ≡ Some firm → (counts : ℕ → Bool) (asked : ℕ) (graph : Blocks)
+    → slice_get firms f ≡ Some firm → (counts : ℕ → Bool) (asked : ℕ) (graph : CostBlocks)
     → ((k : ℕ) → k < firm.count → counts (own trades f k) ≡ true → has asked k ≡ true)
     → HasArcsAmong firms trades on f firm.count firm (part trades f firm.count on) asked graph
     → HasArcsOf firms trades on counts f graph

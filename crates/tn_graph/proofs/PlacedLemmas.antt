@@ -6,12 +6,12 @@ use Rattle.std.proofs.lemmas.List.{get_or_past, get_or_read}
 use Rattle.std.proofs.lemmas.Option.{slice_get_cases}
 use Rattle.tn_base.specs.Sets.{has}
 use Rattle.tn_base.specs.Firm.{Firm}
-use Rattle.tn_plain_data.specs.declared.ends.Ends.{Ends}
+use Rattle.tn_model.specs.declared.ends.Ends.{Ends}
 use Rattle.tn_market.specs.Graph.{raised, lowered, raised_by, lowered_by, exchange_arc}
 use Rattle.tn_market.specs.ArcPlaces.{common_firm, arc_firm}
 use Rattle.tn_market.proofs.GraphLemmas.{firm_of_arc, no_arc}
 use Rattle.tn_graph.specs.declared.spot.Spot.{Spot}
-use Rattle.tn_graph.specs.Blocks.{Places, IsSound, IsSpotOf, no_spot, block_size, spot_at, place_in, place_between, place_of, room_of}
+use Rattle.tn_graph.specs.Blocks.{Places, HasRoomForBlocks, IsSpotOf, no_spot, block_size, spot_at, place_in, place_between, place_of, room_of}
 use Rattle.tn_graph.specs.Layout.{IsLaidOut}
 use Rattle.tn_graph.proofs.RoomLemmas.{room_small}
 
@@ -137,7 +137,7 @@ pub record IsRead (nodes : ℕ) (places : Places) (rises : Bool) (t : ℕ) (spot
   pub stands : IsSpotOf places.own places.laid (room_of nodes) t spot
   pub fits : spot.start + block_size spot.count < 2 ^ 32
 
-module _ (nodes : ℕ) (places : Places) (cells : List ℤ) (sound : IsSound nodes places cells) where
+module _ (nodes : ℕ) (places : Places) (cells : List ℤ) (sound : HasRoomForBlocks nodes places cells) where
   read : (rises : Bool) (t : ℕ) → t < places.laid → (spot : Spot) → spot ≡ spot_at places rises t
       → IsRead nodes places rises t spot
   read rises t below spot is =

@@ -6,22 +6,22 @@ use Rattle.std.proofs.lemmas.Option.{same_Some, slice_get_within, slice_get_past
 use Rattle.tn_base.specs.Sets.{has}
 use Rattle.tn_base.specs.Walks.{is_admitted}
 use Rattle.tn_base.specs.Firm.{Firm}
-use Rattle.tn_law.specs.Places.{move}
-use Rattle.tn_plain_data.specs.declared.ends.Ends.{Ends}
-use Rattle.tn_plain_data.specs.Network.{own, part, IsNetwork}
+use Rattle.tn_firm_laws.specs.Places.{move}
+use Rattle.tn_model.specs.declared.ends.Ends.{Ends}
+use Rattle.tn_model.specs.Network.{own, part, IsNetwork}
 use Rattle.tn_market.specs.Graph.{raised, lowered, raised_by, lowered_by, loss, exchange_arc, graph_worths}
 use Rattle.tn_market.specs.ArcPlaces.{node_at, AreArcPlaces, common_firm, arc_firm}
 use Rattle.tn_market.proofs.GraphLemmas.{node_at-trade, node_at-null, has-part, arc_at, move_of_arc, no_arc, same_firm}
-use Rattle.tn_graph.specs.Blocks.{Blocks, arcs_of}
+use Rattle.tn_graph.specs.Blocks.{CostBlocks, arcs_of}
 use Rattle.tn_graph.specs.Layout.{IsLaidOut}
-use Rattle.tn_graph.specs.Reading.{IsWithoutArcs, IsWritten, IsExchangeGraph, IsExchangeAmong, Improves, HasArcsOf, is_toggled, AreForgotten, IsRightFor, IsUnchanged, changed_worths_from, block_worths, admitted_count}
+use Rattle.tn_graph.specs.Reading.{IsWithoutArcs, IsCostWritten, IsExchangeGraph, IsExchangeAmong, Improves, HasArcsOf, is_toggled, AreForgotten, IsRightFor, IsUnchanged, changed_worths_from, block_worths, admitted_count}
 
 -- ---- improvements
 
-pub improves-none : (arc : ℕ → ℕ → Option ℤ) (graph : Blocks) → Improves arc graph graph
+pub improves-none : (arc : ℕ → ℕ → Option ℤ) (graph : CostBlocks) → Improves arc graph graph
 improves-none arc graph = record { nodes = refl; places = refl; each = λ u v. inr refl }
 
-pub improves-trans : (arc : ℕ → ℕ → Option ℤ) (first second third : Blocks) → Improves arc first second
+pub improves-trans : (arc : ℕ → ℕ → Option ℤ) (first second third : CostBlocks) → Improves arc first second
     → Improves arc second third → Improves arc first third
 improves-trans arc first second third one two = record {
   nodes = two.nodes ∙ one.nodes;
@@ -36,12 +36,12 @@ improves-trans arc first second third one two = record {
 }
 
 -- what is right stays right
-pub stays_right : (arc : ℕ → ℕ → Option ℤ) (before after : Blocks) → Improves arc before after → (u v : ℕ)
+pub stays_right : (arc : ℕ → ℕ → Option ℤ) (before after : CostBlocks) → Improves arc before after → (u v : ℕ)
     → arcs_of before u v ≡ arc u v → arcs_of after u v ≡ arc u v
 stays_right arc before after improves u v right = elim (improves.each u v) [ inl now ↦ now | inr same ↦ same ∙ right ]
 
 -- where there can be no arc, none comes
-pub none_stays : (firms : List Firm) (trades : List Ends) (on : ℕ) (before after : Blocks)
+pub none_stays : (firms : List Firm) (trades : List Ends) (on : ℕ) (before after : CostBlocks)
     → Improves (exchange_arc firms trades on) before after → (u v : ℕ) → arc_firm trades on u v ≡ None
     → arcs_of before u v ≡ None → arcs_of after u v ≡ None
 none_stays firms trades on before after improved u v is none = elim (improved.each u v) [
@@ -50,8 +50,8 @@ none_stays firms trades on before after improved u v is none = elim (improved.ea
 ]
 
 -- a right cost that is written improves
-pub written_improves : (arc : ℕ → ℕ → Option ℤ) (before after : Blocks) (a b : ℕ) (cost : Option ℤ)
-    → IsWritten before a b cost after → cost ≡ arc a b
+pub written_improves : (arc : ℕ → ℕ → Option ℤ) (before after : CostBlocks) (a b : ℕ) (cost : Option ℤ)
+    → IsCostWritten before a b cost after → cost ≡ arc a b
     → Improves arc before after
 written_improves arc before after a b cost written right = record {
   nodes = written.nodes;
@@ -69,7 +69,7 @@ written_improves arc before after a b cost written right = record {
 
 -- with the arcs of one firm more
 pub right_more : (firms : List Firm) (trades : List Ends) (on : ℕ) (counts : ℕ → Bool) (done more : ℕ
-    → Type 0) (f : ℕ) (before after : Blocks) → IsRightFor firms trades on counts done before
+    → Type 0) (f : ℕ) (before after : CostBlocks) → IsRightFor firms trades on counts done before
     → Improves (exchange_arc firms trades on) before after → HasArcsOf firms trades on counts f after
     → ((g : ℕ) → more g → (g ≡ f) ⊎ done g)
     → IsRightFor firms trades on counts more after
@@ -85,7 +85,7 @@ right_more firms trades on counts done more f before after right improved arcs s
 }
 
 pub right_same : (firms : List Firm) (trades : List Ends) (on : ℕ) (counts : ℕ → Bool) (done more : ℕ
-    → Type 0) (graph : Blocks) → IsRightFor firms trades on counts done graph
+    → Type 0) (graph : CostBlocks) → IsRightFor firms trades on counts done graph
     → ((g : ℕ) → more g → done g) → IsRightFor firms trades on counts more graph
 right_same firms trades on counts done more graph right weaker = record {
   nodes = right.nodes;
@@ -96,7 +96,7 @@ right_same firms trades on counts done more graph right weaker = record {
 
 -- a graph without arcs is right for no firm
 pub right_without : (firms : List Firm) (trades : List Ends) (on : ℕ) (counts : ℕ → Bool) (done : ℕ
-    → Type 0) (graph : Blocks) → IsWithoutArcs (length trades + 1) graph → IsLaidOut trades (has on) graph.places
+    → Type 0) (graph : CostBlocks) → IsWithoutArcs (length trades + 1) graph → IsLaidOut trades (has on) graph.places
     → ((g : ℕ) → done g → ⊥) → IsRightFor firms trades on counts done graph
 right_without firms trades on counts done graph without laid_out never = record {
   nodes = without.nodes;
@@ -107,7 +107,7 @@ right_without firms trades on counts done graph without laid_out never = record 
 
 -- right for all firms, it is the exchange graph between the nodes that count
 pub right_arcs : (firms : List Firm) (trades : List Ends) (on : ℕ) (counts : ℕ → Bool) (done : ℕ
-    → Type 0) (graph : Blocks) → IsNetwork firms trades → IsRightFor firms trades on counts done graph
+    → Type 0) (graph : CostBlocks) → IsNetwork firms trades → IsRightFor firms trades on counts done graph
     → ((g : ℕ) → g < length firms → done g) → (u v : ℕ) → counts u ≡ true → counts v ≡ true
     → arcs_of graph u v ≡ exchange_arc firms trades on u v
 right_arcs firms trades on counts done graph network right all u v u_counts v_counts =
@@ -119,7 +119,7 @@ right_arcs firms trades on counts done graph network right all u v u_counts v_co
         let at = move_of_arc firms trades network on u v f some in
         right.right u v f u_counts v_counts some (all f (slice_get_within firms f at.firm at.is))
 
-pub right_all : (firms : List Firm) (trades : List Ends) (on : ℕ) (done : ℕ → Type 0) (graph : Blocks)
+pub right_all : (firms : List Firm) (trades : List Ends) (on : ℕ) (done : ℕ → Type 0) (graph : CostBlocks)
     → IsNetwork firms trades → IsRightFor firms trades on (λ v. true) done graph
     → ((g : ℕ) → g < length firms → done g) → IsExchangeGraph firms trades on graph
 right_all firms trades on done graph network right all = record {
@@ -128,7 +128,7 @@ right_all firms trades on done graph network right all = record {
   arcs = λ u v. right_arcs firms trades on (λ k. true) done graph network right all u v refl refl;
 }
 
-pub right_among : (firms : List Firm) (trades : List Ends) (on admitted : ℕ) (done : ℕ → Type 0) (graph : Blocks)
+pub right_among : (firms : List Firm) (trades : List Ends) (on admitted : ℕ) (done : ℕ → Type 0) (graph : CostBlocks)
     → IsNetwork firms trades → IsRightFor firms trades on (is_admitted (length trades) admitted) done graph
     → ((g : ℕ) → g < length firms → done g) → IsExchangeAmong firms trades on admitted graph
 right_among firms trades on admitted done graph network right all = record {
@@ -140,7 +140,7 @@ right_among firms trades on admitted done graph network right all = record {
 
 -- ---- what is forgotten
 
-pub forgotten_none : (cut : ℕ → Bool) (graph : Blocks) → ((k : ℕ) → cut k ≡ false) → AreForgotten cut graph graph
+pub forgotten_none : (cut : ℕ → Bool) (graph : CostBlocks) → ((k : ℕ) → cut k ≡ false) → AreForgotten cut graph graph
 forgotten_none cut graph never = record {
   nodes = refl;
   gone = λ u v is. absurd (let off : (cut u || cut v) ≡ false = ap₂ (λ (a b : Bool). a || b) (never u) (never v) in
@@ -149,7 +149,7 @@ forgotten_none cut graph never = record {
 }
 
 -- with one node more
-pub forgotten_more : (cut more : ℕ → Bool) (t : ℕ) (first second third : Blocks) → AreForgotten cut first second
+pub forgotten_more : (cut more : ℕ → Bool) (t : ℕ) (first second third : CostBlocks) → AreForgotten cut first second
     → AreForgotten (λ k. k == t) second third
     → ((k : ℕ) → more k ≡ (cut k || (k == t))) → AreForgotten more first third
 forgotten_more cut more t first second third one two split = record {
@@ -191,7 +191,7 @@ forgotten_more cut more t first second third one two split = record {
         ap₂ (λ (a b : Bool). a || b) (ap₂ (λ (a b : Bool). a || b) a_is p_is)
         (ap₂ (λ (a b : Bool). a || b) b_is q_is) in cc (e, off))
 
-pub forgotten_same : (cut more : ℕ → Bool) (first second : Blocks) → AreForgotten cut first second
+pub forgotten_same : (cut more : ℕ → Bool) (first second : CostBlocks) → AreForgotten cut first second
     → ((k : ℕ) → more k ≡ cut k) → AreForgotten more first second
 forgotten_same cut more first second one same = record {
   nodes = one.nodes;
@@ -329,7 +329,7 @@ same_arc firms trades network before on f firm is i j same places =
 
 -- once the toggled trades are forgotten, the graph is right for the firms whose bundles are the same
 pub right_kept : (firms : List Firm) (trades : List Ends) → IsNetwork firms trades
-    → (before on admitted : ℕ) (graph after : Blocks) → IsExchangeAmong firms trades before admitted graph
+    → (before on admitted : ℕ) (graph after : CostBlocks) → IsExchangeAmong firms trades before admitted graph
     → AreForgotten (is_toggled (length trades) before on) graph after → IsLaidOut trades (has on) after.places
     → (done : ℕ → Type 0) → ((g : ℕ) → done g → IsUnchanged firms trades before on g)
     → IsRightFor firms trades on (is_admitted (length trades) admitted) done after

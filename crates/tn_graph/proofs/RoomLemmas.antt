@@ -7,10 +7,10 @@ use Rattle.tn_base.specs.Sets.{has, toggle, size}
 use Rattle.tn_base.specs.Firm.{Firm}
 use Rattle.tn_base.proofs.SetLemmas.{has-zero, has-toggle_other, toggle_within}
 use Rattle.tn_base.proofs.SizeLemmas.{size_le, size-toggle_in, size-zero}
-use Rattle.tn_plain_data.specs.declared.ends.Ends.{Ends}
-use Rattle.tn_plain_data.specs.Network.{own, IsNetwork}
+use Rattle.tn_model.specs.declared.ends.Ends.{Ends}
+use Rattle.tn_model.specs.Network.{own, IsNetwork}
 use Rattle.tn_graph.specs.Blocks.{block_size, room_of}
-use Rattle.tn_graph.specs.Layout.{end_of, sum_before, own_before, room_before, IsBefore}
+use Rattle.tn_graph.specs.Layout.{end_of, sum_before, own_before, room_before, IsLaidBefore}
 use Rattle.tn_graph.proofs.EndLemmas.{end_here, one_end}
 
 -- the room of a graph is small
@@ -95,7 +95,7 @@ record Marked (firms : List Firm) (trades : List Ends) (f k : ℕ) : Type 0 wher
   pub marks : ℕ
   pub within : marks < 2 ^ (length trades + length trades)
   pub counted : size marks ≡ own_before firms f + k
-  pub later : (g j : ℕ) (firm : Firm) → slice_get firms g ≡ Some firm → j < firm.count → (IsBefore f k g j → ⊥)
+  pub later : (g j : ℕ) (firm : Firm) → slice_get firms g ≡ Some firm → j < firm.count → (IsLaidBefore f k g j → ⊥)
       → has marks (code trades firm g j) ≡ false
 
 -- a set with the own trades of a firm at so many positions

@@ -11,10 +11,10 @@ use Rattle.tn_base.specs.Arcs.{IsAtMost}
 use Rattle.tn_base.specs.Firm.{Firm}
 use Rattle.tn_base.specs.Widths.{most_cost}
 use Rattle.tn_base.proofs.SetLemmas.{toggle_within, set_of_within}
-use Rattle.tn_law.specs.Places.{toggle_at}
-use Rattle.tn_law.proofs.PlaceLemmas.{toggle_at-trade, toggle_at-null}
-use Rattle.tn_plain_data.specs.declared.ends.Ends.{Ends}
-use Rattle.tn_plain_data.specs.Network.{own}
+use Rattle.tn_firm_laws.specs.Places.{toggle_at}
+use Rattle.tn_firm_laws.proofs.PlaceLemmas.{toggle_at-trade, toggle_at-null}
+use Rattle.tn_model.specs.declared.ends.Ends.{Ends}
+use Rattle.tn_model.specs.Network.{own}
 use Rattle.tn_market.specs.Graph.{loss}
 use Rattle.tn_graph.specs.Reading.{IsStand, has_level, partners}
 

@@ -7,12 +7,12 @@ use Rattle.std.proofs.lemmas.Option.{same_Some}
 use Rattle.tn_base.specs.Arcs.{IsAtMost, AreBetweenNodes, AreSmall, ListsPredecessors, ListsSuccessors}
 use Rattle.tn_base.specs.Widths.{most_cost}
 use Rattle.tn_graph.specs.declared.spot.Spot.{Spot}
-use Rattle.tn_graph.specs.Blocks.{Blocks, spot_at, place_in, place_between, place_of, cost_at, arcs_of, node_in, listed_count, listed_at}
+use Rattle.tn_graph.specs.Blocks.{CostBlocks, spot_at, place_in, place_between, place_of, cost_in_cell, arcs_of, node_in, listed_count, listed_at}
 
 -- ---- costs
 
-pub cost_at-small : (number cost : ℤ) → cost_at number ≡ Some cost → (number ≡ cost) × IsAtMost cost most_cost
-unfolding cost_at
+pub cost_at-small : (number cost : ℤ) → cost_in_cell number ≡ Some cost → (number ≡ cost) × IsAtMost cost most_cost
+unfolding cost_in_cell
 cost_at-small number cost is =
     elim (cases_Bool (int_le (neg_ℤ (pos most_cost)) number && int_le number (pos most_cost))) [
       | inl within ↦
@@ -33,17 +33,17 @@ cost_at-small number cost is =
     small p q = record { low = grind (arith, ints); high = grind (arith, ints) }
 
 -- an arc has a place, where its cost stands
-pub record ArcAt (graph : Blocks) (u v : ℕ) (cost : ℤ) : Type 0 where
+pub record ArcAt (graph : CostBlocks) (u v : ℕ) (cost : ℤ) : Type 0 where
   pub place : ℕ
   pub is : place_of graph.nodes graph.places u v ≡ Some place
-  pub costs : cost_at (get_or graph.cells place (pos (2 ^ 63))) ≡ Some cost
+  pub costs : cost_in_cell (get_or graph.cells place (pos (2 ^ 63))) ≡ Some cost
 
-pub arc_at : (graph : Blocks) (u v : ℕ) (cost : ℤ) → arcs_of graph u v ≡ Some cost → ArcAt graph u v cost
+pub arc_at : (graph : CostBlocks) (u v : ℕ) (cost : ℤ) → arcs_of graph u v ≡ Some cost → ArcAt graph u v cost
 unfolding arcs_of
 arc_at graph u v cost is = by_case (place_of graph.nodes graph.places u v) refl
   where
     at : Option ℕ → Option ℤ
-    at o = option_and_then (λ place. cost_at (get_or graph.cells place (pos (2 ^ 63)))) o
+    at o = option_and_then (λ place. cost_in_cell (get_or graph.cells place (pos (2 ^ 63)))) o
 
     by_case : (o : Option ℕ) → place_of graph.nodes graph.places u v ≡ o → ArcAt graph u v cost
     by_case None none = absurd (let e : at (place_of graph.nodes graph.places u v) ≡ None = ap at none in cc (e, is))
@@ -52,44 +52,44 @@ arc_at graph u v cost is = by_case (place_of graph.nodes graph.places u v) refl
 -- ---- places
 
 -- where a node stands that is raised, and one that is lowered
-abbrev up : Blocks → ℕ → Spot
-up graph u = spot_at graph.places true u
+abbrev raised_spot : CostBlocks → ℕ → Spot
+raised_spot graph u = spot_at graph.places true u
 
-abbrev down : Blocks → ℕ → Spot
-down graph v = spot_at graph.places false v
+abbrev lowered_spot : CostBlocks → ℕ → Spot
+lowered_spot graph v = spot_at graph.places false v
 
 -- the two ends of an arc are trades in one block
-pub record IsBetweenTrades (graph : Blocks) (u v place : ℕ) : Type 0 where
+pub record IsBetweenTrades (graph : CostBlocks) (u v place : ℕ) : Type 0 where
   pub from : u < graph.places.laid
   pub to : v < graph.places.laid
-  pub same : (up graph u).start ≡ (down graph v).start
-  pub is : place ≡ place_in (up graph u) (up graph u).position (down graph v).position
+  pub same : (raised_spot graph u).start ≡ (lowered_spot graph v).start
+  pub is : place ≡ place_in (raised_spot graph u) (raised_spot graph u).position (lowered_spot graph v).position
 
 -- one of them is null
-pub record IsToNull (graph : Blocks) (u v place : ℕ) : Type 0 where
+pub record IsToNull (graph : CostBlocks) (u v place : ℕ) : Type 0 where
   pub from : u < graph.places.laid
   pub to : v ≡ graph.places.laid
-  pub is : place ≡ place_in (up graph u) (up graph u).position (up graph u).count
+  pub is : place ≡ place_in (raised_spot graph u) (raised_spot graph u).position (raised_spot graph u).count
 
-pub record IsFromNull (graph : Blocks) (u v place : ℕ) : Type 0 where
+pub record IsFromNull (graph : CostBlocks) (u v place : ℕ) : Type 0 where
   pub from : u ≡ graph.places.laid
   pub to : v < graph.places.laid
-  pub is : place ≡ place_in (down graph v) (down graph v).count (down graph v).position
+  pub is : place ≡ place_in (lowered_spot graph v) (lowered_spot graph v).count (lowered_spot graph v).position
 
-abbrev pub PlaceCases : Blocks → ℕ → ℕ → ℕ → Type 0
+abbrev pub PlaceCases : CostBlocks → ℕ → ℕ → ℕ → Type 0
 PlaceCases graph u v place =
     IsBetweenTrades graph u v place ⊎ (IsToNull graph u v place ⊎ IsFromNull graph u v place)
 
 -- past the trades that are laid out there is null alone
-past_is_null : (graph : Blocks) (u v : ℕ) → u < graph.places.laid → graph.places.laid ≤ v → v < graph.nodes
+past_is_null : (graph : CostBlocks) (u v : ℕ) → u < graph.places.laid → graph.places.laid ≤ v → v < graph.nodes
     → v ≡ graph.places.laid
 past_is_null graph u v inside past within =
     let all = graph.sound.all_laid (omega (arith, inside)) in omega (arith, all, past, within)
 
-pub nodes_of_place : (graph : Blocks) (u v place : ℕ) → place_of graph.nodes graph.places u v ≡ Some place
+pub nodes_of_place : (graph : CostBlocks) (u v place : ℕ) → place_of graph.nodes graph.places u v ≡ Some place
     → (u < graph.nodes) × (v < graph.nodes)
-    × (place_between (up graph u) (down graph v) (nat_lt u graph.places.laid) (nat_lt v graph.places.laid)
-    ≡ Some place)
+    × (place_between (raised_spot graph u) (lowered_spot graph v) (nat_lt u graph.places.laid)
+    (nat_lt v graph.places.laid) ≡ Some place)
 unfolding place_of
 nodes_of_place graph u v place is = elim (cases_Bool (nat_lt u graph.nodes && nat_lt v graph.nodes)) [
   | inl within ↦
@@ -101,20 +101,21 @@ nodes_of_place graph u v place is = elim (cases_Bool (nat_lt u graph.nodes && na
   where
     at : Bool → Option ℕ
     at b = if b
-        then place_between (up graph u) (down graph v) (nat_lt u graph.places.laid) (nat_lt v graph.places.laid)
+        then place_between (raised_spot graph u) (lowered_spot graph v) (nat_lt u graph.places.laid)
+        (nat_lt v graph.places.laid)
         else None
 
-pub place_cases : (graph : Blocks) (u v place : ℕ) → place_of graph.nodes graph.places u v ≡ Some place
+pub place_cases : (graph : CostBlocks) (u v place : ℕ) → place_of graph.nodes graph.places u v ≡ Some place
     → PlaceCases graph u v place
 place_cases graph u v place is =
     let found = nodes_of_place graph u v place is in
     by_case (nat_lt u graph.places.laid) (nat_lt v graph.places.laid) refl refl found.0 found.1 found.2
   where
     from : Spot
-    from = up graph u
+    from = raised_spot graph u
 
     to : Spot
-    to = down graph v
+    to = lowered_spot graph v
 
     by_case : (p q : Bool) → nat_lt u graph.places.laid ≡ p → nat_lt v graph.places.laid ≡ q → u < graph.nodes
         → v < graph.nodes
@@ -162,19 +163,19 @@ place_cases graph u v place is =
         absurd (cc (none, e))
 
 -- arcs lead from node to node
-pub arcs_of-between : (graph : Blocks) → AreBetweenNodes graph.nodes (arcs_of graph)
+pub arcs_of-between : (graph : CostBlocks) → AreBetweenNodes graph.nodes (arcs_of graph)
 arcs_of-between graph u v cost is =
     let found = arc_at graph u v cost is in
     let nodes = nodes_of_place graph u v found.place found.is in
     (nodes.0, nodes.1)
 
 -- no cost is above 10^18 in size
-pub arcs_of-small : (graph : Blocks) → AreSmall (arcs_of graph) most_cost
+pub arcs_of-small : (graph : CostBlocks) → AreSmall (arcs_of graph) most_cost
 arcs_of-small graph u v cost is = (cost_at-small _ cost (arc_at graph u v cost is).costs).1
 
 -- ---- lists of nodes
 
-module _ (graph : Blocks) (rises : Bool) (t : ℕ) (below : t < graph.places.laid) where
+module _ (graph : CostBlocks) (rises : Bool) (t : ℕ) (below : t < graph.places.laid) where
   abbrev here : Spot
   here = spot_at graph.places rises t
 
@@ -254,20 +255,20 @@ module _ (graph : Blocks) (rises : Bool) (t : ℕ) (below : t < graph.places.lai
       )
 
 -- beside null each trade is listed
-all_count : (graph : Blocks) (rises : Bool) (t : ℕ) → graph.places.laid ≤ t
+all_count : (graph : CostBlocks) (rises : Bool) (t : ℕ) → graph.places.laid ≤ t
     → listed_count graph.places rises t ≡ graph.places.laid
 unfolding listed_count
 all_count graph rises t past =
     ap (λ (b : Bool). if b then (spot_at graph.places rises t).count + 1 else graph.places.laid)
     (le-ltb t graph.places.laid past)
 
-all_at : (graph : Blocks) (rises : Bool) (t k : ℕ) → graph.places.laid ≤ t → listed_at graph.places rises t k ≡ k
+all_at : (graph : CostBlocks) (rises : Bool) (t k : ℕ) → graph.places.laid ≤ t → listed_at graph.places rises t k ≡ k
 unfolding listed_at
 all_at graph rises t k past =
     ap (λ (b : Bool). if b then node_in graph.places (spot_at graph.places rises t) k else k)
     (le-ltb t graph.places.laid past)
 
-all_inside : (graph : Blocks) (rises : Bool) (t : ℕ) → graph.places.laid ≤ t → (k : ℕ)
+all_inside : (graph : CostBlocks) (rises : Bool) (t : ℕ) → graph.places.laid ≤ t → (k : ℕ)
     → k < listed_count graph.places rises t
     → listed_at graph.places rises t k < graph.nodes
 all_inside graph rises t past k within =
@@ -276,17 +277,17 @@ all_inside graph rises t past k within =
     let few = graph.sound.laid_few in
     omega (arith, at, counted, few, within)
 
-all_once : (graph : Blocks) (rises : Bool) (t : ℕ) → graph.places.laid ≤ t → (i k : ℕ)
+all_once : (graph : CostBlocks) (rises : Bool) (t : ℕ) → graph.places.laid ≤ t → (i k : ℕ)
     → listed_at graph.places rises t i ≡ listed_at graph.places rises t k → i ≡ k
 all_once graph rises t past i k same = sym (all_at graph rises t i past) ∙ same ∙ all_at graph rises t k past
 
-all_listed : (graph : Blocks) (rises : Bool) (t u : ℕ) → graph.places.laid ≤ t → u < graph.places.laid
+all_listed : (graph : CostBlocks) (rises : Bool) (t u : ℕ) → graph.places.laid ≤ t → u < graph.places.laid
     → (k : ℕ) × (k < listed_count graph.places rises t) × (listed_at graph.places rises t k ≡ u)
 all_listed graph rises t u past inside =
     let counted = all_count graph rises t past in
     (u, omega (arith, inside, counted), all_at graph rises t u past)
 
-pub arcs_of-predecessors : (graph : Blocks) (b : ℕ) → b < graph.nodes
+pub arcs_of-predecessors : (graph : CostBlocks) (b : ℕ) → b < graph.nodes
     → ListsPredecessors graph.nodes (arcs_of graph) b (listed_count graph.places false b)
     (listed_at graph.places false b)
 arcs_of-predecessors graph b within = elim (cases_lt b graph.places.laid) [
@@ -318,7 +319,7 @@ arcs_of-predecessors graph b within = elim (cases_lt b graph.places.laid) [
   }
 ]
 
-pub arcs_of-successors : (graph : Blocks) (a : ℕ) → a < graph.nodes
+pub arcs_of-successors : (graph : CostBlocks) (a : ℕ) → a < graph.nodes
     → ListsSuccessors graph.nodes (arcs_of graph) a (listed_count graph.places true a) (listed_at graph.places true a)
 arcs_of-successors graph a within = elim (cases_lt a graph.places.laid) [
   | inl below ↦ record {

@@ -47,7 +47,7 @@ spot_at places rises t = get_or (if rises then places.raised else places.lowered
 
 -- there is room for the blocks of every market of so many nodes, and the blocks of the trades with places lie in it and
 -- don't overlap
-pub record IsSound (nodes : ℕ) (places : Places) (cells : List ℤ) : Type 0 where
+pub record HasRoomForBlocks (nodes : ℕ) (places : Places) (cells : List ℤ) : Type 0 where
   pub few : nodes ≤ most_market_trades + 1
   pub laid_few : places.laid < nodes
   pub all_laid : 0 < places.laid → places.laid + 1 ≡ nodes
@@ -61,15 +61,16 @@ pub record IsSound (nodes : ℕ) (places : Places) (cells : List ℤ) : Type 0 w
       → AreOneOrApart (spot_at places one s) (spot_at places other t)
 
 -- a graph: how many nodes there are, where the trades stand, and the costs block by block, each row by row
-pub record Blocks : Type 0 where
+pub record CostBlocks : Type 0 where
   pub nodes : ℕ
   pub places : Places
   pub cells : List ℤ
-  pub sound : IsSound nodes places cells
+  pub sound : HasRoomForBlocks nodes places cells
 
 -- what a number stands for: a cost if it is no larger than one may be, else that there is no arc
-unfoldable pub cost_at : ℤ → Option ℤ
-cost_at number = if int_le (neg_ℤ (pos most_cost)) number && int_le number (pos most_cost) then Some number else None
+unfoldable pub cost_in_cell : ℤ → Option ℤ
+cost_in_cell number = if int_le (neg_ℤ (pos most_cost)) number && int_le number (pos most_cost) then Some number
+    else None
 
 -- the place of a row and a column of a block among all costs
 abbrev pub place_in : Spot → ℕ → ℕ → ℕ
@@ -90,9 +91,9 @@ place_of nodes places u v = if nat_lt u nodes && nat_lt v nodes
     else None
 
 -- the cost of the arc from node u to node v, none where there is no arc
-unfoldable pub arcs_of : Blocks → ℕ → ℕ → Option ℤ
-arcs_of graph u v = option_and_then (λ place. cost_at (get_or graph.cells place (pos (2 ^ 63)))) (place_of graph.nodes
-    graph.places u v)
+unfoldable pub arcs_of : CostBlocks → ℕ → ℕ → Option ℤ
+arcs_of graph u v = option_and_then (λ place. cost_in_cell (get_or graph.cells place (pos (2 ^ 63))))
+    (place_of graph.nodes graph.places u v)
 
 -- the node at a place of a block: an own trade, or null after them
 abbrev pub node_in : Places → Spot → ℕ → ℕ

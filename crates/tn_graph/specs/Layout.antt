@@ -2,8 +2,8 @@
 use Rattle.std.specs.Prelude.{◌≡◌, ◌≢◌, ◌⊎◌, ℕ, zero, suc, ◌+◌, ◌*◌, ◌<◌, List, [], ◌∷◌, length, slice_get, get_or, Bool, not, if◌then◌else◌, Option, Some, option_map}
 use Rattle.tn_base.specs.Firm.{Firm}
 use Rattle.tn_base.specs.Sets.{has}
-use Rattle.tn_plain_data.specs.declared.ends.Ends.{Ends}
-use Rattle.tn_plain_data.specs.Network.{own}
+use Rattle.tn_model.specs.declared.ends.Ends.{Ends}
+use Rattle.tn_model.specs.Network.{own}
 use Rattle.tn_market.specs.Graph.{raised as raised_end}
 use Rattle.tn_graph.specs.declared.spot.Spot.{Spot}
 use Rattle.tn_graph.specs.Blocks.{Places, spot_at, no_spot, block_size}
@@ -46,8 +46,8 @@ abbrev pub spot_for : List Firm → ℕ → ℕ → ℕ → Spot
 spot_for firms f n k = record { start = room_before firms f; count = n; own = own_before firms f; position = k }
 
 -- position j of firm g is before position k of firm f
-abbrev pub IsBefore : ℕ → ℕ → ℕ → ℕ → Type 0
-IsBefore f k g j = (g < f) ⊎ ((g ≡ f) × (j < k))
+abbrev pub IsLaidBefore : ℕ → ℕ → ℕ → ℕ → Type 0
+IsLaidBefore f k g j = (g < f) ⊎ ((g ≡ f) × (j < k))
 
 -- the trades at the positions before position k of firm f have their places, and stand among the own trades
 pub record IsLaidTo (firms : List Firm) (trades : List Ends) (on f k : ℕ) (raised lowered : List Spot)
@@ -55,8 +55,8 @@ pub record IsLaidTo (firms : List Firm) (trades : List Ends) (on f k : ℕ) (rai
   pub raised_sized : length raised ≡ length trades + 1
   pub lowered_sized : length lowered ≡ length trades + 1
   pub own_sized : length owned ≡ 2 * (length trades + 1)
-  pub spots : (rises : Bool) (t g j : ℕ) (firm : Firm) → slice_get firms g ≡ Some firm → IsBefore f k g j
+  pub spots : (rises : Bool) (t g j : ℕ) (firm : Firm) → slice_get firms g ≡ Some firm → IsLaidBefore f k g j
       → end_of trades (has on) rises t ≡ Some (g, j)
       → get_or (if rises then raised else lowered) t no_spot ≡ spot_for firms g firm.count j
-  pub owns : (g j d : ℕ) (firm : Firm) → slice_get firms g ≡ Some firm → IsBefore f k g j → j < firm.count
+  pub owns : (g j d : ℕ) (firm : Firm) → slice_get firms g ≡ Some firm → IsLaidBefore f k g j → j < firm.count
       → get_or owned (own_before firms g + j) d ≡ own trades g j

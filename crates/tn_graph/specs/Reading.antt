@@ -4,35 +4,36 @@ use Rattle.tn_base.specs.Sets.{has, set_of, size}
 use Rattle.tn_base.specs.Firm.{Firm}
 use Rattle.tn_base.specs.Walks.{is_admitted}
 use Rattle.tn_base.specs.Widths.{most_cost}
-use Rattle.tn_law.specs.Places.{trade_level, level, CanRise, CanFall}
-use Rattle.tn_plain_data.specs.declared.ends.Ends.{Ends}
-use Rattle.tn_plain_data.specs.Network.{part, IsNetwork}
+use Rattle.tn_firm_laws.specs.Places.{trade_level, level, CanRise, CanFall}
+use Rattle.tn_model.specs.declared.ends.Ends.{Ends}
+use Rattle.tn_model.specs.Network.{part, IsNetwork}
 use Rattle.tn_market.specs.Graph.{exchange_arc}
 use Rattle.tn_market.specs.ArcPlaces.{node_at, AreArcPlaces, arc_firm}
 use Rattle.tn_market.specs.Valued.{IsWorthAtMost}
-use Rattle.tn_graph.specs.Blocks.{Blocks, arcs_of}
+use Rattle.tn_graph.specs.Blocks.{CostBlocks, arcs_of}
 use Rattle.tn_graph.specs.Layout.{IsLaidOut}
 
 -- the graph has this many nodes and no arc
-pub record IsWithoutArcs (count : ℕ) (graph : Blocks) : Type 0 where
+pub record IsWithoutArcs (count : ℕ) (graph : CostBlocks) : Type 0 where
   pub nodes : graph.nodes ≡ count
   pub none : (u v : ℕ) → arcs_of graph u v ≡ None
 
 -- one cost is written, and every other stays
-pub record IsWritten (before : Blocks) (a b : ℕ) (cost : Option ℤ) (after : Blocks) : Type 0 where
+pub record IsCostWritten (before : CostBlocks) (a b : ℕ) (cost : Option ℤ) (after : CostBlocks) : Type 0 where
   pub nodes : after.nodes ≡ before.nodes
   pub places : after.places ≡ before.places
   pub here : arcs_of after a b ≡ cost
   pub elsewhere : (u v : ℕ) → (u ≡ a → v ≡ b → ⊥) → arcs_of after u v ≡ arcs_of before u v
 
 -- the graph is the exchange graph of a network at a set of trades, laid out for these
-pub record IsExchangeGraph (firms : List Firm) (trades : List Ends) (on : ℕ) (graph : Blocks) : Type 0 where
+pub record IsExchangeGraph (firms : List Firm) (trades : List Ends) (on : ℕ) (graph : CostBlocks) : Type 0 where
   pub nodes : graph.nodes ≡ length trades + 1
   pub laid_out : IsLaidOut trades (has on) graph.places
   pub arcs : (u v : ℕ) → arcs_of graph u v ≡ exchange_arc firms trades on u v
 
 -- the same among some trades and null alone; the costs of other arcs may be any, but for those that can't be there
-pub record IsExchangeAmong (firms : List Firm) (trades : List Ends) (on admitted : ℕ) (graph : Blocks) : Type 0 where
+pub record IsExchangeAmong (firms : List Firm) (trades : List Ends) (on admitted : ℕ) (graph : CostBlocks) : Type
+    0 where
   pub nodes : graph.nodes ≡ length trades + 1
   pub laid_out : IsLaidOut trades (has on) graph.places
   pub arcs : (u v : ℕ) → is_admitted (length trades) admitted u ≡ true → is_admitted (length trades) admitted v ≡ true
@@ -40,7 +41,7 @@ pub record IsExchangeAmong (firms : List Firm) (trades : List Ends) (on admitted
   pub none : (u v : ℕ) → arc_firm trades on u v ≡ None → arcs_of graph u v ≡ None
 
 -- each cost is as it was or as it is to be
-pub record Improves (arc : ℕ → ℕ → Option ℤ) (before after : Blocks) : Type 0 where
+pub record Improves (arc : ℕ → ℕ → Option ℤ) (before after : CostBlocks) : Type 0 where
   pub nodes : after.nodes ≡ before.nodes
   pub places : after.places ≡ before.places
   pub each : (u v : ℕ) → (arcs_of after u v ≡ arc u v) ⊎ (arcs_of after u v ≡ arcs_of before u v)
@@ -78,14 +79,14 @@ CanMove true n level_of k = CanRise n level_of k
 CanMove false n level_of k = CanFall n level_of k
 
 -- the cost of the arc from place i of a firm to its place j is right
-abbrev pub HasArc : List Firm → List Ends → ℕ → ℕ → ℕ → ℕ → ℕ → Blocks → Type 0
+abbrev pub HasArc : List Firm → List Ends → ℕ → ℕ → ℕ → ℕ → ℕ → CostBlocks → Type 0
 HasArc firms trades on f n i j graph = arcs_of graph (node_at trades f n i) (node_at trades f n j)
     ≡ exchange_arc firms trades on (node_at trades f n i) (node_at trades f n j)
 
 -- the arcs between place k of a firm and those of some positions that are before j are read, and each other cost is as
 -- it was or right
 pub record IsLineRead (firms : List Firm) (trades : List Ends) (on f n : ℕ) (rises : Bool) (k others : ℕ)
-    (before : Blocks) (j : ℕ) (graph : Blocks) : Type 0 where
+    (before : CostBlocks) (j : ℕ) (graph : CostBlocks) : Type 0 where
   pub improved : Improves (exchange_arc firms trades on) before graph
   pub line : (other : ℕ) → other < j → has others other ≡ true
       → HasArc firms trades on f n (raised_place rises k other) (lowered_place rises k other) graph
@@ -102,18 +103,18 @@ abbrev pub is_asked : ℕ → ℕ → ℕ → Bool
 is_asked n asked k = if nat_lt k n then has asked k else true
 
 -- the costs of the arcs from place k of a firm, or of those to it, are right where the other place is asked for
-abbrev pub HasLine : List Firm → List Ends → ℕ → ℕ → ℕ → Firm → ℕ → ℕ → Bool → ℕ → Blocks → Type 0
+abbrev pub HasLine : List Firm → List Ends → ℕ → ℕ → ℕ → Firm → ℕ → ℕ → Bool → ℕ → CostBlocks → Type 0
 HasLine firms trades on f n firm x asked rises k graph = (other : ℕ) → is_asked n asked other ≡ true
     → AreArcPlaces firm x (raised_place rises k other) (lowered_place rises k other)
     → HasArc firms trades on f n (raised_place rises k other) (lowered_place rises k other) graph
 
 -- the costs of the arcs of a firm are right where both places are asked for
-abbrev pub HasArcsAmong : List Firm → List Ends → ℕ → ℕ → ℕ → Firm → ℕ → ℕ → Blocks → Type 0
+abbrev pub HasArcsAmong : List Firm → List Ends → ℕ → ℕ → ℕ → Firm → ℕ → ℕ → CostBlocks → Type 0
 HasArcsAmong firms trades on f n firm x asked graph = (i j : ℕ) → is_asked n asked i ≡ true → is_asked n asked j ≡ true
     → AreArcPlaces firm x i j → HasArc firms trades on f n i j graph
 
 -- the costs of the arcs of firm f are right between nodes that count
-abbrev pub HasArcsOf : List Firm → List Ends → ℕ → (ℕ → Bool) → ℕ → Blocks → Type 0
+abbrev pub HasArcsOf : List Firm → List Ends → ℕ → (ℕ → Bool) → ℕ → CostBlocks → Type 0
 HasArcsOf firms trades on counts f graph = (u v : ℕ) → counts u ≡ true → counts v ≡ true
     → arc_firm trades on u v ≡ Some f → arcs_of graph u v ≡ exchange_arc firms trades on u v
 
@@ -122,17 +123,17 @@ abbrev pub is_toggled : ℕ → ℕ → ℕ → ℕ → Bool
 is_toggled count before on t = nat_lt t count && (if has before t then not (has on t) else has on t)
 
 -- the arcs from and to some nodes are taken away, and every other stays
-pub record AreForgotten (cut : ℕ → Bool) (before after : Blocks) : Type 0 where
+pub record AreForgotten (cut : ℕ → Bool) (before after : CostBlocks) : Type 0 where
   pub nodes : after.nodes ≡ before.nodes
   pub gone : (u v : ℕ) → (cut u || cut v) ≡ true → arcs_of after u v ≡ None
   pub kept : (u v : ℕ) → (cut u || cut v) ≡ false → arcs_of after u v ≡ arcs_of before u v
 
 -- the arc from a node to another one, or the one back
-abbrev pub arc_beside : Blocks → Bool → ℕ → ℕ → Option ℤ
+abbrev pub arc_beside : CostBlocks → Bool → ℕ → ℕ → Option ℤ
 arc_beside graph from t u = if from then arcs_of graph t u else arcs_of graph u t
 
 -- the arcs from node t, or those to it, are taken away, and every other stays
-pub record IsCut (from : Bool) (t : ℕ) (before after : Blocks) : Type 0 where
+pub record IsCut (from : Bool) (t : ℕ) (before after : CostBlocks) : Type 0 where
   pub nodes : after.nodes ≡ before.nodes
   pub places : after.places ≡ before.places
   pub gone : (u : ℕ) → arc_beside after from t u ≡ None
@@ -140,7 +141,7 @@ pub record IsCut (from : Bool) (t : ℕ) (before after : Blocks) : Type 0 where
 
 -- the costs of the arcs of some firms are right between nodes that count, and there is no arc where there can be none
 pub record IsRightFor (firms : List Firm) (trades : List Ends) (on : ℕ) (counts : ℕ → Bool) (done : ℕ
-    → Type 0) (graph : Blocks) : Type 0 where
+    → Type 0) (graph : CostBlocks) : Type 0 where
   pub nodes : graph.nodes ≡ length trades + 1
   pub laid_out : IsLaidOut trades (has on) graph.places
   pub right : (u v f : ℕ) → counts u ≡ true → counts v ≡ true → arc_firm trades on u v ≡ Some f → done f

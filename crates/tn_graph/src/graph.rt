@@ -5,9 +5,9 @@ ghost use Rattle.tn_base.specs.Arcs.{IsAtMost};
 ghost use Rattle.tn_base.specs.Sets.{has};
 ghost use Rattle.tn_base.specs.Widths.{most_cost};
 ghost use Rattle.tn_market.specs.Widths.{most_market_trades};
-ghost use Rattle.tn_graph.specs.Blocks.{cost_at, listed_at, listed_count, place_of, room_of, spot_at, IsSound};
+ghost use Rattle.tn_graph.specs.Blocks.{cost_in_cell, listed_at, listed_count, place_of, room_of, spot_at, HasRoomForBlocks};
 ghost use Rattle.tn_graph.specs.Layout.{IsLaidOut, IsTurned};
-ghost use Rattle.tn_graph.specs.Reading.{IsWithoutArcs, IsWritten};
+ghost use Rattle.tn_graph.specs.Reading.{IsCostWritten, IsWithoutArcs};
 
 use crate::places::Places;
 use crate::spot::Spot;
@@ -42,7 +42,7 @@ pub struct Graph {
     places: Places,
     /// The blocks, one after another, each row by row.
     cells: Vec<i64>,
-    ghost sound: { IsSound nodes (record {
+    ghost sound: { HasRoomForBlocks nodes (record {
       laid = laid;
       raised = places.raised.items;
       lowered = places.lowered.items;
@@ -51,9 +51,9 @@ pub struct Graph {
 }
 
 impl Model for Graph {
-    ghost use Rattle.tn_graph.specs.Blocks.{Blocks};
+    ghost use Rattle.tn_graph.specs.Blocks.{CostBlocks};
 
-    ghost Value = { Blocks };
+    ghost Value = { CostBlocks };
 
     ghost view = { λ graph. record {
       nodes = graph.nodes;
@@ -69,10 +69,10 @@ impl Model for Graph {
 }
 
 /// The number that stands for the cost of an arc.
-#[tactic(auto, unfolding(crate::specs::Blocks::cost_at))]
+#[tactic(auto, unfolding(crate::specs::Blocks::cost_in_cell))]
 fn packed(cost: Option<i128>) -> i64
     requires { IfSome cost (λ c. IsAtMost c most_cost) }
-    ensures { cost_at result ≡ cost }
+    ensures { cost_in_cell result ≡ cost }
 {
     match cost {
         Some(cost) => cost as i64,
@@ -81,9 +81,9 @@ fn packed(cost: Option<i128>) -> i64
 }
 
 /// The cost of an arc that a number stands for.
-#[tactic(auto, unfolding(crate::specs::Blocks::cost_at))]
+#[tactic(auto, unfolding(crate::specs::Blocks::cost_in_cell))]
 fn unpacked(number: i64) -> Option<i128>
-    ensures { result ≡ cost_at number }
+    ensures { result ≡ cost_in_cell number }
 {
     if -MOST_COST <= number && number <= MOST_COST {
         Some(i128::from(number))
@@ -173,7 +173,7 @@ impl Graph {
         requires to { b < self.old.nodes }
         requires small { IfSome cost (λ c. IsAtMost c most_cost) }
         requires placed { IfSome cost (λ _. IsSome (place_of self.old.nodes self.old.places a b)) }
-        ensures { IsWritten self.old a b cost self.new }
+        ensures { IsCostWritten self.old a b cost self.new }
     {
         if let Some(place) = self.place(a, b) {
             self.cells[place as usize] = packed(cost);

@@ -2,7 +2,7 @@
 
 ghost use Rattle.std.specs.Prelude.{◌≡◌, ◌+◌, ◌*◌, ◌<◌, ◌≤◌, not, if◌then◌else◌, Some, length, map, slice_get};
 ghost use Rattle.tn_base.specs.Sets.{has};
-ghost use Rattle.tn_plain_data.specs.Network.{IsNetwork};
+ghost use Rattle.tn_model.specs.Network.{IsNetwork};
 ghost use Rattle.tn_market.specs.NetworkOf.{network_of};
 ghost use Rattle.tn_market.specs.Widths.{most_market_trades};
 ghost use Rattle.tn_graph.specs.Layout.{spot_for, IsLaidTo};

@@ -3,9 +3,9 @@
 ghost use Rattle.std.specs.Prelude.{◌≡◌, ℕ, ◌+◌, ◌*◌, ◌^◌, ◌≤◌, ◌<◌, ◌==◌, nat_lt, true, false, if◌then◌else◌, Some, length, map, slice_get, not};
 ghost use Rattle.tn_base.specs.Sets.{has, set_of, size, toggle};
 ghost use Rattle.tn_base.specs.Widths.{most_cost};
-ghost use Rattle.tn_law.specs.Places.{level, toggle_at, move};
-ghost use Rattle.tn_plain_data.specs.declared.ends.Ends.{Ends};
-ghost use Rattle.tn_plain_data.specs.Network.{IsNetwork, part};
+ghost use Rattle.tn_firm_laws.specs.Places.{level, toggle_at, move};
+ghost use Rattle.tn_model.specs.declared.ends.Ends.{Ends};
+ghost use Rattle.tn_model.specs.Network.{IsNetwork, part};
 ghost use Rattle.tn_market.specs.ArcPlaces.{node_at, AreArcPlaces};
 ghost use Rattle.tn_market.specs.Graph.{exchange_arc, graph_worths, ArePossible};
 ghost use Rattle.tn_market.specs.NetworkOf.{network_of};

@@ -4,10 +4,10 @@ ghost use Rattle.std.specs.Prelude.{◌≡◌, ℕ, ◌+◌, ◌*◌, ◌^◌, �
 ghost use Rattle.tn_base.specs.Arcs.{IsAtMost};
 ghost use Rattle.tn_base.specs.Widths.{most_cost};
 ghost use Rattle.tn_base.specs.Sets.{has};
-ghost use Rattle.tn_law.specs.Places.{trade_level, toggle_at};
+ghost use Rattle.tn_firm_laws.specs.Places.{trade_level, toggle_at};
 ghost use Rattle.tn_market.specs.ArcPlaces.{node_at};
 ghost use Rattle.tn_market.specs.Graph.{loss, ArePossible};
-ghost use Rattle.tn_plain_data.specs.Network.{IsNetwork};
+ghost use Rattle.tn_model.specs.Network.{IsNetwork};
 ghost use Rattle.tn_market.specs.NetworkOf.{network_of};
 ghost use Rattle.tn_graph.specs.Reading.{IsStand, has_level, partners};
 
@@ -32,7 +32,7 @@ pub struct Stand<'a, V: Valuation, const W: usize> {
 }
 
 /// A bundle of at most 64 positions toggled at a place: at null it stays.
-#[tactic(auto, unfolding(tn_law::specs::Places::toggle_at))]
+#[tactic(auto, unfolding(tn_firm_laws::specs::Places::toggle_at))]
 fn toggled(x: Bundle, count: u32, k: u32) -> Bundle
     requires { count ≤ 64 }
     ensures { result ≡ toggle_at count x k }
@@ -91,7 +91,7 @@ impl<'a, V: Valuation, const W: usize> Stand<'a, V, W> {
     }
 
     /// Whether a position has level 1.
-    #[tactic(auto, unfolding(tn_law::specs::Places::trade_level))]
+    #[tactic(auto, unfolding(tn_firm_laws::specs::Places::trade_level))]
     fn is_high(&self, k: u32) -> bool
         requires stand { network_of V.firm self.now.market.now IsStand self.now.on.now self.now.f self.now.count
             (V.firm self.now.firm.now) (V.limit self.now.firm.now) self.now.bundle self.now.worth }

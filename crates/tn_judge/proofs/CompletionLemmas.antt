@@ -7,16 +7,16 @@ use Rattle.std.proofs.lemmas.List.{get_or_default}
 use Rattle.tn_base.specs.Arcs.{IsAtMost}
 use Rattle.tn_base.specs.Firm.{Firm}
 use Rattle.tn_base.specs.Walks.{KeepsArcs}
-use Rattle.tn_law.proofs.KeepLemmas.{option_map-some}
-use Rattle.tn_law.proofs.LabelLemmas.{walk-kept}
+use Rattle.tn_firm_laws.proofs.KeepLemmas.{option_map-some}
+use Rattle.tn_firm_laws.proofs.LabelLemmas.{walk-kept}
 use Rattle.tn_cycle.specs.Answers.{label_in, AreLabels, IsNegative}
-use Rattle.tn_graph.specs.Blocks.{Blocks, arcs_of}
+use Rattle.tn_graph.specs.Blocks.{CostBlocks, arcs_of}
 use Rattle.tn_graph.specs.Reading.{IsExchangeGraph}
-use Rattle.tn_plain_data.specs.declared.ends.Ends.{Ends}
-use Rattle.tn_plain_data.specs.declared.contract.Contract.{Contract}
-use Rattle.tn_plain_data.specs.Limits.{most_numerator, most_trades}
-use Rattle.tn_plain_data.specs.Network.{IsNetwork}
-use Rattle.tn_plain_data.specs.Prices.{price_at}
+use Rattle.tn_model.specs.declared.ends.Ends.{Ends}
+use Rattle.tn_model.specs.declared.contract.Contract.{Contract}
+use Rattle.tn_model.specs.Limits.{most_numerator, most_trades}
+use Rattle.tn_model.specs.Network.{IsNetwork}
+use Rattle.tn_model.specs.Prices.{price_at}
 use Rattle.tn_market.specs.Graph.{exchange_arc, ArePossible}
 use Rattle.tn_market.specs.Lawful.{IsLawful}
 use Rattle.tn_market.specs.Limits.{IsOutcomeOf, IsWithinLimits}
@@ -24,12 +24,12 @@ use Rattle.tn_market.specs.Signed.{is_signed, signed_price, signed, Completes}
 use Rattle.tn_market.specs.Traded.{Traded}
 use Rattle.tn_market.specs.Valued.{IsWorthAtMost}
 use Rattle.tn_market.specs.Widths.{most_worth}
-use Rattle.tn_network.specs.Laws.{price_of_node}
-use Rattle.tn_network.proofs.EachLemmas.{each_within, meet_all, same_prices}
-use Rattle.tn_network.proofs.SupportLemmas.{arcs_small}
-use Rattle.tn_outcome.specs.Fixed.{lesser, fixed_at, fixed_arc, fixing_arc, IsPossibleOutcome}
-use Rattle.tn_outcome.proofs.FixedLemmas.{completion_is_fixed_labels, null_unsigned}
-use Rattle.tn_outcome.proofs.SignedLemmas.{agreed_price}
+use Rattle.tn_network_laws.specs.Laws.{price_of_node}
+use Rattle.tn_network_laws.proofs.EachLemmas.{each_within, meet_all, same_prices}
+use Rattle.tn_network_laws.proofs.SupportLemmas.{arcs_small}
+use Rattle.tn_outcome_laws.specs.Fixed.{lesser, fixed_at, fixed_arc, fixing_arc, IsPossibleOutcome}
+use Rattle.tn_outcome_laws.proofs.FixedLemmas.{completion_is_fixed_labels, null_unsigned}
+use Rattle.tn_outcome_laws.proofs.SignedLemmas.{agreed_price}
 use Rattle.tn_residual.specs.Held.{contract_price}
 use Rattle.tn_residual.proofs.HeldLemmas.{price_some}
 use Rattle.tn_residual.proofs.MakingLemmas.{outcome_feasible}
@@ -69,7 +69,7 @@ pub can_be_fixed : {V : Type 0} (firm_of : V → Firm) (limit_of : V
     → ℕ) (market : Traded V) (over : ℤ) (contracts : List Contract) → IsNetwork (map firm_of market.firms) market.trades
     → ((v : V) → IsWorthAtMost (limit_of v) (firm_of v)) → IsWithinLimits firm_of limit_of market
     → IsOutcomeOf market.trades over contracts
-    → (on : ℕ) (graph : Blocks) → IsExchangeGraph (map firm_of market.firms) market.trades on graph → (null : ℕ)
+    → (on : ℕ) (graph : CostBlocks) → IsExchangeGraph (map firm_of market.firms) market.trades on graph → (null : ℕ)
     → null ≡ length market.trades
     → (prices : List (Option ℤ)) → ArePriced contracts (null + 1) prices → CanBeFixed graph over null prices
 can_be_fixed firm_of limit_of market over contracts network within limits outcome on graph is null null_is prices
@@ -115,7 +115,7 @@ keeps_lowered high arc label keeps u v cost is =
     falls lu lv hu hv cost kept = omega (arith, ints, kept)
 
 -- the graph that is read is the fixed one before nodes are raised
-same_fixed : (firms : List Firm) (trades : List Ends) (over : ℤ) (contracts : List Contract) (graph : Blocks)
+same_fixed : (firms : List Firm) (trades : List Ends) (over : ℤ) (contracts : List Contract) (graph : CostBlocks)
     → IsExchangeGraph firms trades (signed (length trades) contracts) graph
     → (null : ℕ) → null ≡ length trades → (prices : List (Option ℤ)) → ArePriced contracts (null + 1) prices
     → (u v : ℕ) → fixed_at over (price_in prices) null (arcs_of graph) u v ≡ fixed_arc firms trades over contracts u v
@@ -128,7 +128,7 @@ same_fixed firms trades over contracts graph is null null_is prices priced u v =
 -- ---- labels
 
 -- labels of the fixed graph are small
-pub labels_small : (nodes : ℕ) (graph : Blocks) (over : ℤ) (null : ℕ) (prices : List (Option ℤ)) (labels : List ℤ)
+pub labels_small : (nodes : ℕ) (graph : CostBlocks) (over : ℤ) (null : ℕ) (prices : List (Option ℤ)) (labels : List ℤ)
     → nodes ≤ most_trades + 1 → CanBeFixed graph over null prices
     → AreLabels nodes (raised_fixed over prices null (arcs_of graph)) labels → (v : ℕ) → v < length labels
     → IsAtMost (label_in labels v) most_fixed_label
@@ -141,7 +141,7 @@ labels_small nodes graph over null prices labels few fits are v below =
 
 pub labels_complete : (firms : List Firm) (trades : List Ends) (over : ℤ) (contracts : List Contract)
     → IsPossibleOutcome firms trades over contracts → All (λ contract. IsAtMost contract.price most_numerator) contracts
-    → (graph : Blocks) → IsExchangeGraph firms trades (signed (length trades) contracts) graph → (null : ℕ)
+    → (graph : CostBlocks) → IsExchangeGraph firms trades (signed (length trades) contracts) graph → (null : ℕ)
     → null ≡ length trades
     → (prices : List (Option ℤ)) → ArePriced contracts (null + 1) prices → (labels : List ℤ)
     → KeepsArcs (raised_fixed over prices null (arcs_of graph)) (label_in labels)
@@ -217,7 +217,7 @@ labels_complete firms trades over contracts outcome small_contracts graph is nul
         (small null (omega (arith, labelled, null_is)))
 
 pub cycle_incomplete : (firms : List Firm) (trades : List Ends) (over : ℤ) (contracts : List Contract)
-    → IsPossibleOutcome firms trades over contracts → (graph : Blocks)
+    → IsPossibleOutcome firms trades over contracts → (graph : CostBlocks)
     → IsExchangeGraph firms trades (signed (length trades) contracts) graph → (null : ℕ) → null ≡ length trades
     → (prices : List (Option ℤ)) → ArePriced contracts (null + 1) prices
     → (nodes : ℕ) (listed : List ℕ) (cost : ℤ) (count : ℕ)

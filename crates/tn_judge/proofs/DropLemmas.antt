@@ -6,14 +6,14 @@ use Rattle.std.proofs.lemmas.Option.{same_Some}
 use Rattle.tn_base.specs.Sets.{has}
 use Rattle.tn_base.specs.Firm.{Firm}
 use Rattle.tn_base.proofs.SetLemmas.{has_below, set_of_within, within_from}
-use Rattle.tn_plain_data.specs.declared.ends.Ends.{Ends}
-use Rattle.tn_plain_data.specs.declared.contract.Contract.{Contract}
-use Rattle.tn_plain_data.specs.Network.{own}
+use Rattle.tn_model.specs.declared.ends.Ends.{Ends}
+use Rattle.tn_model.specs.declared.contract.Contract.{Contract}
+use Rattle.tn_model.specs.Network.{own}
 use Rattle.tn_market.specs.Best.{IsSubset, IsBestBetween}
-use Rattle.tn_plain_data.specs.Choices.{bundle_by, part_utility, own_part, IsPart, IsChoice}
+use Rattle.tn_model.specs.Choices.{bundle_by, part_utility, own_part, IsPart, IsChoice}
 use Rattle.tn_market.specs.Signed.{is_signed, signed, signed_bundle, contract_utility}
-use Rattle.tn_outcome.proofs.SignedLemmas.{has-signed_bundle}
-use Rattle.tn_outcome.proofs.RationalLemmas.{IsSigner, part_is_bundle, part_bundle, bundle_signed, is_in, in_is, wanted_part, wanted_is_part, own_is_part, own_bundle, between_signed, inside_signed, rational_from_bundles}
+use Rattle.tn_outcome_laws.proofs.SignedLemmas.{has-signed_bundle}
+use Rattle.tn_outcome_laws.proofs.RationalLemmas.{IsSigner, part_is_bundle, part_bundle, bundle_signed, is_in, in_is, wanted_part, wanted_is_part, own_is_part, own_bundle, between_signed, inside_signed, rational_from_bundles}
 use Rattle.tn_judge.specs.declared.drops.Kept.{Kept}
 use Rattle.tn_judge.specs.Drops.{TellsDrop, FindsDrop}
 use Rattle.tn_judge.specs.Verdict.{AreKeptBefore}

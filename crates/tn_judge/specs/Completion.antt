@@ -2,9 +2,9 @@
 use Rattle.std.specs.Prelude.{◌≡◌, ℕ, ◌<◌, ℤ, ◌-ℤ◌, if◌then◌else◌, List, length, Option, Some, None}
 use Rattle.tn_base.specs.Firm.{Firm}
 use Rattle.tn_cycle.specs.Answers.{label_in}
-use Rattle.tn_plain_data.specs.declared.ends.Ends.{Ends}
-use Rattle.tn_plain_data.specs.declared.contract.Contract.{Contract}
-use Rattle.tn_plain_data.specs.Prices.{price_at}
+use Rattle.tn_model.specs.declared.ends.Ends.{Ends}
+use Rattle.tn_model.specs.declared.contract.Contract.{Contract}
+use Rattle.tn_model.specs.Prices.{price_at}
 use Rattle.tn_market.specs.Signed.{is_signed, signed_price}
 use Rattle.tn_judge.specs.Verdict.{IsCompletedBy, IsIncomplete}
 

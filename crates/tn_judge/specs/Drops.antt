@@ -1,9 +1,9 @@
 -- What is found on the way to the first firm that would drop contracts.
 use Rattle.std.specs.Prelude.{◌≡◌, ℕ, ℤ, ◌-ℤ◌, ◌<ℤ◌, ◌≤ℤ◌, List, Option, Some, None}
 use Rattle.tn_base.specs.Firm.{Firm}
-use Rattle.tn_plain_data.specs.declared.ends.Ends.{Ends}
-use Rattle.tn_plain_data.specs.declared.contract.Contract.{Contract}
-use Rattle.tn_plain_data.specs.Choices.{own_part, IsChoice, IsIndividuallyRational}
+use Rattle.tn_model.specs.declared.ends.Ends.{Ends}
+use Rattle.tn_model.specs.declared.contract.Contract.{Contract}
+use Rattle.tn_model.specs.Choices.{own_part, IsChoice, IsIndividuallyRational}
 use Rattle.tn_judge.specs.declared.drops.Kept.{Kept}
 use Rattle.tn_judge.specs.Verdict.{WouldDrop, IsFirstDrop}
 

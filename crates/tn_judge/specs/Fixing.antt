@@ -2,10 +2,10 @@
 -- there.
 use Rattle.std.specs.Prelude.{◌≡◌, ℕ, ◌+◌, ℤ, pos, ◌+ℤ◌, ◌-ℤ◌, ◌≤ℤ◌, List, length, slice_index_or, Option, Some, None, option_map}
 use Rattle.tn_base.specs.Arcs.{IsAtMost, AreSmall}
-use Rattle.tn_plain_data.specs.declared.contract.Contract.{Contract}
-use Rattle.tn_plain_data.specs.Limits.{most_numerator, most_over}
-use Rattle.tn_graph.specs.Blocks.{Blocks, arcs_of}
-use Rattle.tn_outcome.specs.Fixed.{fixed_at}
+use Rattle.tn_model.specs.declared.contract.Contract.{Contract}
+use Rattle.tn_model.specs.Limits.{most_numerator, most_over}
+use Rattle.tn_graph.specs.Blocks.{CostBlocks, arcs_of}
+use Rattle.tn_outcome_laws.specs.Fixed.{fixed_at}
 use Rattle.tn_residual.specs.Held.{contract_price}
 use Rattle.tn_judge.specs.Limits.{most_exchange_cost}
 
@@ -33,7 +33,7 @@ pub record ArePriced (contracts : List Contract) (nodes : ℕ) (prices : List (O
   pub each : (v : ℕ) → price_in prices v ≡ contract_price contracts v
 
 -- a graph, a denominator and prices within the limits, with null as the last node
-pub record CanBeFixed (graph : Blocks) (over : ℤ) (null : ℕ) (prices : List (Option ℤ)) : Type 0 where
+pub record CanBeFixed (graph : CostBlocks) (over : ℤ) (null : ℕ) (prices : List (Option ℤ)) : Type 0 where
   pub nodes : graph.nodes ≡ null + 1
   pub counted : length prices ≡ null + 1
   pub small_costs : AreSmall (arcs_of graph) most_exchange_cost

@@ -6,13 +6,13 @@ use Rattle.std.proofs.lemmas.Bool.{cases_lt}
 use Rattle.std.proofs.lemmas.List.{get_or_past}
 use Rattle.tn_base.specs.Arcs.{IsAtMost, AreBetweenNodes, AreSmall}
 use Rattle.tn_base.specs.Widths.{most_cost}
-use Rattle.tn_law.proofs.BoundLemmas.{times_small}
-use Rattle.tn_law.proofs.KeepLemmas.{option_map-some}
-use Rattle.tn_plain_data.specs.Limits.{most_numerator, most_over}
-use Rattle.tn_graph.specs.Blocks.{Blocks, arcs_of}
+use Rattle.tn_firm_laws.proofs.BoundLemmas.{times_small}
+use Rattle.tn_firm_laws.proofs.KeepLemmas.{option_map-some}
+use Rattle.tn_model.specs.Limits.{most_numerator, most_over}
+use Rattle.tn_graph.specs.Blocks.{CostBlocks, arcs_of}
 use Rattle.tn_graph.specs.BlockLemmas.{arcs_of-between}
-use Rattle.tn_outcome.specs.Fixed.{fixed_at}
-use Rattle.tn_outcome.proofs.FixedLemmas.{between-fixed_at, small-fixed_at}
+use Rattle.tn_outcome_laws.specs.Fixed.{fixed_at}
+use Rattle.tn_outcome_laws.proofs.FixedLemmas.{between-fixed_at, small-fixed_at}
 use Rattle.tn_judge.specs.Limits.{most_exchange_cost, most_fixed_cost}
 use Rattle.tn_judge.specs.Fixing.{price_in, height, raised_fixed, CanBeFixed}
 
@@ -35,7 +35,7 @@ counted_small over cost from_one small_over small =
     }) small
 
 -- a cost that isn't raised
-pub unraised_small : (graph : Blocks) (over : ℤ) (null : ℕ) (prices : List (Option ℤ))
+pub unraised_small : (graph : CostBlocks) (over : ℤ) (null : ℕ) (prices : List (Option ℤ))
     → CanBeFixed graph over null prices
     → AreSmall (fixed_at over (price_in prices) null (arcs_of graph)) (most_over * most_exchange_cost)
 unraised_small graph over null prices fits =
@@ -52,7 +52,8 @@ height_small None = (omega (arith, ints), omega (arith, ints))
 height_small (Some p) = (omega (arith, ints), omega (arith, ints))
 
 -- no cost of the raised graph is above this size
-pub raised_small : (graph : Blocks) (over : ℤ) (null : ℕ) (prices : List (Option ℤ)) → CanBeFixed graph over null prices
+pub raised_small : (graph : CostBlocks) (over : ℤ) (null : ℕ) (prices : List (Option ℤ))
+    → CanBeFixed graph over null prices
     → AreSmall (raised_fixed over prices null (arcs_of graph)) most_fixed_cost
 raised_small graph over null prices fits u v cost is =
     let found = option_map-some (λ c. (c +ℤ height (price_in prices v)) -ℤ height (price_in prices u))
@@ -69,7 +70,7 @@ raised_small graph over null prices fits u v cost is =
       high = omega (arith, ints, small.high, up.0, up.1, down.0, down.1, is);
     }
 
-pub raised_within : (graph : Blocks) (over : ℤ) (null : ℕ) (prices : List (Option ℤ))
+pub raised_within : (graph : CostBlocks) (over : ℤ) (null : ℕ) (prices : List (Option ℤ))
     → CanBeFixed graph over null prices
     → AreSmall (raised_fixed over prices null (arcs_of graph)) most_cost
 raised_within graph over null prices fits u v cost is =
@@ -77,7 +78,7 @@ raised_within graph over null prices fits u v cost is =
     record { low = omega (arith, ints, small.low); high = omega (arith, ints, small.high) }
 
 -- arcs lead from node to node
-pub raised_between : (graph : Blocks) (over : ℤ) (null : ℕ) (prices : List (Option ℤ))
+pub raised_between : (graph : CostBlocks) (over : ℤ) (null : ℕ) (prices : List (Option ℤ))
     → CanBeFixed graph over null prices
     → AreBetweenNodes (null + 1) (raised_fixed over prices null (arcs_of graph))
 raised_between graph over null prices fits u v cost is =

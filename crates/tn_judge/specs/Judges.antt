@@ -1,9 +1,9 @@
 -- The verdict on an outcome.
 use Rattle.std.specs.Prelude.{◌≡◌, ℤ, ◌*ℤ◌, List, length}
 use Rattle.tn_base.specs.Firm.{Firm}
-use Rattle.tn_plain_data.specs.declared.ends.Ends.{Ends}
-use Rattle.tn_plain_data.specs.declared.contract.Contract.{Contract}
-use Rattle.tn_plain_data.specs.Choices.{IsIndividuallyRational}
+use Rattle.tn_model.specs.declared.ends.Ends.{Ends}
+use Rattle.tn_model.specs.declared.contract.Contract.{Contract}
+use Rattle.tn_model.specs.Choices.{IsIndividuallyRational}
 use Rattle.tn_chain.specs.Search.{chain_scale, IsBlockingChain}
 use Rattle.tn_judge.specs.declared.judging.Judged.{Judged}
 use Rattle.tn_judge.specs.declared.judging.Judged.TheVariants.{Drops, Completes, Blocks}

@@ -1,6 +1,6 @@
 -- How large the prices are that complete an outcome.
 use Rattle.std.specs.Prelude.{ℕ, ◌+◌, ◌*◌, ◌^◌}
-use Rattle.tn_plain_data.specs.Limits.{most_numerator, most_over, most_trades}
+use Rattle.tn_model.specs.Limits.{most_numerator, most_over, most_trades}
 use Rattle.tn_market.specs.Widths.{most_worth}
 
 -- the cost of an arc of the exchange graph is at most so much in size

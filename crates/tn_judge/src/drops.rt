@@ -7,7 +7,7 @@ ghost use Rattle.tn_judge.specs.Drops.{FindsDrop, FindsFirst, TellsDrop};
 ghost use Rattle.tn_market.specs.Best.{IsBestBetween};
 ghost use Rattle.tn_market.specs.Limits.{IsOutcomeOf, IsWithinLimits};
 ghost use Rattle.tn_market.specs.Widths.{most_utility};
-ghost use Rattle.tn_plain_data.specs.Network.{IsNetwork};
+ghost use Rattle.tn_model.specs.Network.{IsNetwork};
 ghost use Rattle.tn_market.specs.Signed.{contract_utility, signed_bundle};
 ghost use Rattle.tn_market.specs.NetworkOf.{network_of};
 

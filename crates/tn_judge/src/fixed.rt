@@ -7,8 +7,8 @@ ghost use Rattle.tn_graph.specs.Blocks.{arcs_of};
 ghost use Rattle.tn_judge.specs.Fixing.{CanBeFixed, height, price_in, raised_fixed};
 ghost use Rattle.tn_judge.specs.FixingLemmas.{raised_between, raised_within};
 ghost use Rattle.tn_judge.specs.Limits.{most_exchange_cost};
-ghost use Rattle.tn_outcome.specs.Fixed.{fixing_arc, fixed_at, lesser};
-ghost use Rattle.tn_plain_data.specs.Limits.{most_numerator, most_over};
+ghost use Rattle.tn_outcome_laws.specs.Fixed.{fixing_arc, fixed_at, lesser};
+ghost use Rattle.tn_model.specs.Limits.{most_numerator, most_over};
 
 use tn_base::Costs;
 use tn_graph::Graph;

@@ -2,7 +2,7 @@
 
 ghost use Rattle.std.specs.Prelude.{◌≡◌, ◌≤◌, IfOk, length, pos, ◌*ℤ◌, ◌≤ℤ◌};
 ghost use Rattle.tn_chain.specs.Limits.{most_judged_trades};
-ghost use Rattle.tn_plain_data.specs.Limits.{most_over};
+ghost use Rattle.tn_model.specs.Limits.{most_over};
 ghost use Rattle.tn_chain.specs.Search.{chain_scale};
 ghost use Rattle.tn_judge.specs.Judges.{JudgesContracts};
 ghost use Rattle.tn_market.specs.Limits.{IsOutcomeOf, IsWithinLimits};

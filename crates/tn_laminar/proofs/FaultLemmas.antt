@@ -7,7 +7,7 @@ use Rattle.std.proofs.lemmas.Option.{slice_get_cases, slice_get_within, get_or_f
 use mir.Syntax.{w128}
 use mir.Val.{of_z, to_z}
 use Rattle.tn_base.specs.Arcs.{IsAtMost}
-use Rattle.tn_law.specs.Nested.{IsConcaveList}
+use Rattle.tn_firm_laws.specs.Nested.{IsConcaveList}
 use Rattle.tn_laminar.specs.declared.set.LaminarSet.{LaminarSet}
 use Rattle.tn_laminar.specs.declared.refusal.LaminarRefusal.{LaminarRefusal}
 use Rattle.tn_laminar.specs.Faults.{IsBend, IsSound, AreSound, AreSoundBelow, IsFirstFault, GivesFault}

@@ -11,43 +11,43 @@ use Rattle.tn_base.specs.Sets.{has, meet, toggle, sum_over}
 use Rattle.tn_base.proofs.SetLemmas.{has-zero, has-meet, has-toggle_same, has-toggle_other, has_below}
 use Rattle.tn_base.proofs.FirmLemmas.{meet-toggle_in, meet-toggle_out, net-toggle_buy_in, net-toggle_buy_out, net-toggle_sell_in, net-toggle_sell_out}
 use Rattle.tn_base.proofs.SumLemmas.{sum_over-toggle_in, sum_over-toggle_out}
-use Rattle.tn_law.specs.Nested.{count_sum, listed_from}
+use Rattle.tn_firm_laws.specs.Nested.{count_sum, listed_from}
 use Rattle.tn_laminar.specs.declared.set.LaminarSet.{LaminarSet}
 use Rattle.tn_laminar.specs.declared.row.Slope.{Slope}
 use Rattle.tn_laminar.specs.LawLemmas.{numbers_small, amounts_small}
 use Rattle.tn_laminar.specs.WithinLemmas.{all_at, listed_within}
-use Rattle.tn_laminar.specs.Rows.{most_counted, counted, listed_sum, counted_sum, counted_beside, IsSlope, step_of, counted_change, AreChanges}
-use Rattle.tn_laminar.specs.Sum.{HasNumbersWithin, IsLaminar, IsOwnSet, amount_at, laminar_sum, number_of, term_of}
+use Rattle.tn_laminar.specs.Rows.{most_counted, counted_or_unlisted, listed_sum, counted_sum, counted_beside, IsSlope, step_of, counted_change, AreChanges}
+use Rattle.tn_laminar.specs.Sum.{HasNumbersWithin, IsLaminar, IsOwnSet, amount_at, laminar_sum, set_number, term_of}
 use Rattle.tn_laminar.specs.declared.masks.Masks.{Masks}
 use Rattle.tn_laminar.specs.Masked.{masks_of, net_within}
 use Rattle.tn_laminar.proofs.ValueLemmas.{net_by_masks, CountsSoFar, counts_none, counts_more, counts_stop, counts_all}
 use Rattle.tn_base.specs.Widths.{most_amount}
 use Rattle.tn_market.specs.Widths.{most_own}
-use Rattle.tn_plain_data.specs.Limits.{most_sets}
+use Rattle.tn_model.specs.Limits.{most_sets}
 use mir.Syntax.{w128}
 use mir.Val.{SFits}
 use Rattle.std.specs.Prelude.{set as set_at}
 
 -- ---- what numbers count
 
-counted-some : (o : Option ℤ) (number : ℤ) → o ≡ Some number → counted o ≡ number
-unfolding counted
-counted-some o number is = ap counted is
+counted-some : (o : Option ℤ) (number : ℤ) → o ≡ Some number → counted_or_unlisted o ≡ number
+unfolding counted_or_unlisted
+counted-some o number is = ap counted_or_unlisted is
 
-counted-none : (o : Option ℤ) → o ≡ None → counted o ≡ neg_ℤ (pos most_counted)
-unfolding counted
-counted-none o is = ap counted is
+counted-none : (o : Option ℤ) → o ≡ None → counted_or_unlisted o ≡ neg_ℤ (pos most_counted)
+unfolding counted_or_unlisted
+counted-none o is = ap counted_or_unlisted is
 
 -- a number of at most 10^9 in size, or none, counts at most 10^12
 pub counted_small : (o : Option ℤ) → IfSome o (λ number. IsAtMost number most_amount)
-    → IsAtMost (counted o) most_counted
-unfolding counted
+    → IsAtMost (counted_or_unlisted o) most_counted
+unfolding counted_or_unlisted
 counted_small None small = record { low = omega (arith, ints); high = omega (arith, ints) }
 counted_small (Some number) small = let low = small.low in let high = small.high in
     record { low = omega (arith, ints, low); high = omega (arith, ints, high) }
 
 number_of_small : (buys x : ℕ) (sets : List LaminarSet) (k : ℕ) → All HasNumbersWithin sets
-    → IfSome (number_of buys x (slice_get sets k)) (λ number. IsAtMost number most_amount)
+    → IfSome (set_number buys x (slice_get sets k)) (λ number. IsAtMost number most_amount)
 number_of_small buys x sets k all = by (slice_get sets k) refl
   where
     some : (set : LaminarSet) (o : Option ℤ) → slice_get sets k ≡ Some set
@@ -59,12 +59,12 @@ number_of_small buys x sets k all = by (slice_get sets k) refl
         (net buys (meet x set.members)) u e
 
     by : (o : Option LaminarSet) → slice_get sets k ≡ o
-        → IfSome (number_of buys x o) (λ number. IsAtMost number most_amount)
+        → IfSome (set_number buys x o) (λ number. IsAtMost number most_amount)
     by None e = tt
     by (Some set) e = some set (listed_from set.low set.numbers (net buys (meet x set.members))) e refl
 
 pub counted_sum-next : (buys : ℕ) (sets : List LaminarSet) (k x : ℕ)
-    → counted_sum buys sets (k + 1) x ≡ counted_sum buys sets k x +ℤ counted (number_of buys x (slice_get sets k))
+    → counted_sum buys sets (k + 1) x ≡ counted_sum buys sets k x +ℤ counted_or_unlisted (set_number buys x (slice_get sets k))
 unfolding counted_sum
 counted_sum-next buys sets k x = rw add-one refl
 
@@ -80,10 +80,10 @@ counted_sum_small buys sets zero x all =
 counted_sum_small buys sets (suc k) x all =
     let one : suc k ≡ k + 1 = omega arith in
     let next : counted_sum buys sets (suc k) x ≡ counted_sum buys sets k x
-    +ℤ counted (number_of buys x (slice_get sets k)) =
+    +ℤ counted_or_unlisted (set_number buys x (slice_get sets k)) =
     ap (λ (j : ℕ). counted_sum buys sets j x) one ∙ counted_sum-next buys sets k x in
     let rest = counted_sum_small buys sets k x all in
-    let here = counted_small (number_of buys x (slice_get sets k)) (number_of_small buys x sets k all) in
+    let here = counted_small (set_number buys x (slice_get sets k)) (number_of_small buys x sets k all) in
     let a = rest.low in
     let b = rest.high in
     let p = here.low in
@@ -98,8 +98,8 @@ IsCounted buys sets x k = CountsSoFar buys sets x k (counted_sum buys sets k x)
     ⊎ ((None ≡ count_sum buys (map term_of sets) x)
     × (counted_sum buys sets k x ≤ℤ (neg_ℤ (pos most_counted) +ℤ pos (k * most_amount))))
 
-counted_most : (o : Option ℤ) → IfSome o (λ number. IsAtMost number most_amount) → counted o ≤ℤ pos most_amount
-unfolding counted
+counted_most : (o : Option ℤ) → IfSome o (λ number. IsAtMost number most_amount) → counted_or_unlisted o ≤ℤ pos most_amount
+unfolding counted_or_unlisted
 counted_most None small = omega (arith, ints)
 counted_most (Some number) small = small.high
 
@@ -110,36 +110,36 @@ is_counted buys sets x zero all within =
 is_counted buys sets x (suc k) all within =
     let one : suc k ≡ k + 1 = omega arith in
     subst (λ (j : ℕ). IsCounted buys sets x j) (sym one)
-    (next (number_of buys x (slice_get sets k)) refl (is_counted buys sets x k all (omega (arith, within))))
+    (next (set_number buys x (slice_get sets k)) refl (is_counted buys sets x k all (omega (arith, within))))
   where
     inside : k < length sets
     inside = omega (arith, within)
 
-    small : IfSome (number_of buys x (slice_get sets k)) (λ number. IsAtMost number most_amount)
+    small : IfSome (set_number buys x (slice_get sets k)) (λ number. IsAtMost number most_amount)
     small = number_of_small buys x sets k all
 
     sum_is : counted_sum buys sets (k + 1) x ≡ counted_sum buys sets k x
-        +ℤ counted (number_of buys x (slice_get sets k))
+        +ℤ counted_or_unlisted (set_number buys x (slice_get sets k))
     sum_is = counted_sum-next buys sets k x
 
-    next : (o : Option ℤ) → number_of buys x (slice_get sets k) ≡ o → IsCounted buys sets x k
+    next : (o : Option ℤ) → set_number buys x (slice_get sets k) ≡ o → IsCounted buys sets x k
         → IsCounted buys sets x (k + 1)
     next (Some number) is (inl so_far) =
         let fits : IsAtMost number most_amount =
         subst (λ (p : Option ℤ). IfSome p (λ a. IsAtMost a most_amount)) is small in
-        let counts : counted (number_of buys x (slice_get sets k)) ≡ number = counted-some _ number is in
+        let counts : counted_or_unlisted (set_number buys x (slice_get sets k)) ≡ number = counted-some _ number is in
         inl (subst (λ (z : ℤ). CountsSoFar buys sets x (k + 1) z)
         (sym (sum_is ∙ ap (λ (z : ℤ). counted_sum buys sets k x +ℤ z) counts))
         (counts_more buys sets x k (counted_sum buys sets k x) number inside is fits so_far))
     next None is (inl so_far) =
-        let counts : counted (number_of buys x (slice_get sets k)) ≡ neg_ℤ (pos most_counted) = counted-none _ is in
+        let counts : counted_or_unlisted (set_number buys x (slice_get sets k)) ≡ neg_ℤ (pos most_counted) = counted-none _ is in
         let high = so_far.small.high in
         inr (
           counts_stop buys sets x k (counted_sum buys sets k x) inside is so_far,
           omega (arith, ints, sum_is, counts, high),
         )
     next o is (inr gone) =
-        let most = counted_most (number_of buys x (slice_get sets k)) small in
+        let most = counted_most (set_number buys x (slice_get sets k)) small in
         let low = gone.1 in
         inr (gone.0, omega (arith, ints, sum_is, most, low))
 
@@ -175,11 +175,11 @@ listed_sum_is buys sets x all few = by (is_counted buys sets x (length sets) all
 
 -- a toggle within the set moves its net count by one, and so its number by a step
 member_change : (buys x j : ℕ) (set : LaminarSet) (slope : Slope) → IsSlope buys x set slope → has set.members j ≡ true
-    → counted (number_of buys (toggle x j) (Some set)) -ℤ counted (number_of buys x (Some set)) ≡ step_of buys x slope j
+    → counted_or_unlisted (set_number buys (toggle x j) (Some set)) -ℤ counted_or_unlisted (set_number buys x (Some set)) ≡ step_of buys x slope j
 member_change buys x j set slope is member = by (has buys j) (has x j) refl refl
   where
     number_at : ℤ → ℤ
-    number_at count = counted (listed_from set.low set.numbers count)
+    number_at count = counted_or_unlisted (listed_from set.low set.numbers count)
 
     toggled : net buys (meet (toggle x j) set.members) ≡ net buys (toggle (meet x set.members) j)
     toggled = ap (net buys) (meet-toggle_in x set.members j member)
@@ -230,8 +230,8 @@ member_change buys x j set slope is member = by (has buys j) (has x j) refl refl
 
 -- one set more changes a position's sum by what its own number changes
 change_next : (buys : ℕ) (sets : List LaminarSet) (k x j : ℕ) → counted_change buys sets (k + 1) x j
-    ≡ counted_change buys sets k x j +ℤ (counted (number_of buys (toggle x j) (slice_get sets k))
-    -ℤ counted (number_of buys x (slice_get sets k)))
+    ≡ counted_change buys sets k x j +ℤ (counted_or_unlisted (set_number buys (toggle x j) (slice_get sets k))
+    -ℤ counted_or_unlisted (set_number buys x (slice_get sets k)))
 change_next buys sets k x j =
     let first = counted_sum-next buys sets k (toggle x j) in
     let second = counted_sum-next buys sets k x in
@@ -244,7 +244,7 @@ pub member_changes : (buys : ℕ) (sets : List LaminarSet) (k x j : ℕ) (set : 
 member_changes buys sets k x j set slope is slope_is member =
     change_next buys sets k x j
     ∙ ap (λ (o : Option LaminarSet). counted_change buys sets k x j
-    +ℤ (counted (number_of buys (toggle x j) o) -ℤ counted (number_of buys x o))) is
+    +ℤ (counted_or_unlisted (set_number buys (toggle x j) o) -ℤ counted_or_unlisted (set_number buys x o))) is
     ∙ ap (λ (z : ℤ). counted_change buys sets k x j +ℤ z) (member_change buys x j set slope slope_is member)
 
 -- by nothing, if the set doesn't hold it
@@ -252,21 +252,21 @@ pub other_changes : (buys : ℕ) (sets : List LaminarSet) (k x j : ℕ) (set : L
     → has set.members j ≡ false
     → counted_change buys sets (k + 1) x j ≡ counted_change buys sets k x j
 other_changes buys sets k x j set is absent =
-    let same : counted (number_of buys (toggle x j) (Some set)) ≡ counted (number_of buys x (Some set)) =
-    ap (λ (y : ℕ). counted (listed_from set.low set.numbers (net buys y))) (meet-toggle_out x set.members j absent) in
+    let same : counted_or_unlisted (set_number buys (toggle x j) (Some set)) ≡ counted_or_unlisted (set_number buys x (Some set)) =
+    ap (λ (y : ℕ). counted_or_unlisted (listed_from set.low set.numbers (net buys y))) (meet-toggle_out x set.members j absent) in
     let one =
     change_next buys sets k x j
     ∙ ap (λ (o : Option LaminarSet). counted_change buys sets k x j
-    +ℤ (counted (number_of buys (toggle x j) o) -ℤ counted (number_of buys x o))) is in
+    +ℤ (counted_or_unlisted (set_number buys (toggle x j) o) -ℤ counted_or_unlisted (set_number buys x o))) is in
     omega (arith, ints, same, one)
 
 -- the slope that the code reads off
 pub slope_is : (buys x : ℕ) (sets : List LaminarSet) (masks : List Masks) (k : ℕ) (set : LaminarSet) (mask : Masks)
     (here above below : ℤ)
     → masks ≡ map (λ set. masks_of buys set.members) sets → slice_get sets k ≡ Some set → slice_get masks k ≡ Some mask
-    → here ≡ counted (listed_from set.low set.numbers (net_within mask x))
-    → above ≡ counted (listed_from set.low set.numbers (net_within mask x +ℤ pos 1))
-    → below ≡ counted (listed_from set.low set.numbers (net_within mask x -ℤ pos 1))
+    → here ≡ counted_or_unlisted (listed_from set.low set.numbers (net_within mask x))
+    → above ≡ counted_or_unlisted (listed_from set.low set.numbers (net_within mask x +ℤ pos 1))
+    → below ≡ counted_or_unlisted (listed_from set.low set.numbers (net_within mask x -ℤ pos 1))
     → IsSlope buys x set (record { up = above -ℤ here; down = below -ℤ here })
 slope_is buys x sets masks k set mask here above below masked set_is mask_is here_is above_is below_is = record {
   up = ap₂ (λ (y z : ℤ). y -ℤ z) (above_is ∙ ap (λ (n : ℤ). number_at (n +ℤ pos 1)) count) (here_is ∙ at_count);
@@ -274,7 +274,7 @@ slope_is buys x sets masks k set mask here above below masked set_is mask_is her
 }
   where
     number_at : ℤ → ℤ
-    number_at count = counted (listed_from set.low set.numbers count)
+    number_at count = counted_or_unlisted (listed_from set.low set.numbers count)
 
     count : net_within mask x ≡ net buys (meet x set.members)
     count = net_by_masks buys sets masks x k set mask masked set_is mask_is

@@ -10,12 +10,12 @@ use Rattle.tn_base.specs.Arcs.{IsAtMost}
 use Rattle.tn_base.specs.Sets.{has, meet, sum_over}
 use Rattle.tn_base.specs.Firm.{net}
 use Rattle.tn_base.specs.Options.{both}
-use Rattle.tn_law.specs.Nested.{count_sum, listed_from}
+use Rattle.tn_firm_laws.specs.Nested.{count_sum, listed_from}
 use Rattle.tn_laminar.specs.declared.set.LaminarSet.{LaminarSet}
 use Rattle.tn_laminar.specs.declared.masks.Masks.{Masks}
 use Rattle.tn_laminar.specs.Masked.{masks_of, net_within}
 use Rattle.tn_laminar.proofs.MaskLemmas.{net_within_is}
-use Rattle.tn_laminar.specs.Sum.{term_of, number_of, HasNumbersWithin}
+use Rattle.tn_laminar.specs.Sum.{term_of, set_number, HasNumbersWithin}
 use Rattle.tn_laminar.specs.WithinLemmas.{listed_within}
 use Rattle.tn_base.specs.Widths.{most_amount}
 
@@ -56,11 +56,11 @@ rest_at buys sets x k set is =
 
 -- a set whose number is there
 pub counts_more : (buys : ℕ) (sets : List LaminarSet) (x k : ℕ) (total number : ℤ) → k < length sets
-    → number_of buys x (slice_get sets k) ≡ Some number → IsAtMost number most_amount
+    → set_number buys x (slice_get sets k) ≡ Some number → IsAtMost number most_amount
     → CountsSoFar buys sets x k total → CountsSoFar buys sets x (k + 1) (total +ℤ number)
 counts_more buys sets x k total number inside number_is small so_far = by (slice_get sets k) refl number_is
   where
-    by : (o : Option LaminarSet) → slice_get sets k ≡ o → number_of buys x o ≡ Some number
+    by : (o : Option LaminarSet) → slice_get sets k ≡ o → set_number buys x o ≡ Some number
         → CountsSoFar buys sets x (k + 1) (total +ℤ number)
     by None e f = absurd (none-some number f)
     by (Some set) e f =
@@ -79,11 +79,11 @@ counts_more buys sets x k total number inside number_is small so_far = by (slice
 
 -- a set whose number isn't there
 pub counts_stop : (buys : ℕ) (sets : List LaminarSet) (x k : ℕ) (total : ℤ) → k < length sets
-    → number_of buys x (slice_get sets k) ≡ None
+    → set_number buys x (slice_get sets k) ≡ None
     → CountsSoFar buys sets x k total → None ≡ count_sum buys (map term_of sets) x
 counts_stop buys sets x k total inside none so_far = by (slice_get sets k) refl none
   where
-    by : (o : Option LaminarSet) → slice_get sets k ≡ o → number_of buys x o ≡ None
+    by : (o : Option LaminarSet) → slice_get sets k ≡ o → set_number buys x o ≡ None
         → None ≡ count_sum buys (map term_of sets) x
     by None e f =
         let there = slice_get_past_not sets k inside in
@@ -124,10 +124,10 @@ net_by_masks buys sets masks x k set mask masked set_is mask_is =
 pub number_by_masks : (buys : ℕ) (sets : List LaminarSet) (masks : List Masks) (x k : ℕ) (set : LaminarSet)
     (mask : Masks)
     → masks ≡ map (λ set. masks_of buys set.members) sets → slice_get sets k ≡ Some set → slice_get masks k ≡ Some mask
-    → listed_from set.low set.numbers (net_within mask x) ≡ number_of buys x (slice_get sets k)
+    → listed_from set.low set.numbers (net_within mask x) ≡ set_number buys x (slice_get sets k)
 number_by_masks buys sets masks x k set mask masked set_is mask_is =
     ap (listed_from set.low set.numbers) (net_by_masks buys sets masks x k set mask masked set_is mask_is)
-    ∙ ap (number_of buys x) (sym set_is)
+    ∙ ap (set_number buys x) (sym set_is)
 
 -- a listed number is small
 pub number_small : (set : LaminarSet) (count : ℤ) (o : Option ℤ) → HasNumbersWithin set

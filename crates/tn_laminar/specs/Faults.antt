@@ -1,6 +1,6 @@
 -- What is wrong with the sets of a laminar firm, and which of their faults is the first.
 use Rattle.std.specs.Prelude.{◌≡◌, ℕ, ◌+◌, ◌-◌, ◌<◌, ◌≤◌, ℤ, pos, ◌+ℤ◌, ◌*ℤ◌, ◌<ℤ◌, List, length, get_or, slice_get, Option, Some, None, IsSome, IsNone}
-use Rattle.tn_law.specs.Nested.{listed_from, Cross, IsConcaveList}
+use Rattle.tn_firm_laws.specs.Nested.{listed_from, Cross, IsConcaveList}
 use Rattle.tn_laminar.specs.declared.set.LaminarSet.{LaminarSet}
 use Rattle.tn_laminar.specs.declared.refusal.LaminarRefusal.{LaminarRefusal}
 use Rattle.tn_laminar.specs.declared.refusal.LaminarRefusal.TheVariants.{NoEmpty, NotConcave, NotLaminar, OutOfMemory}

@@ -13,9 +13,9 @@ use Rattle.tn_base.specs.Exchange.{MeetsExchange}
 use Rattle.tn_base.proofs.SetLemmas.{same_set, has-meet, has-zero}
 use Rattle.tn_base.proofs.FirmLemmas.{net-zero}
 use Rattle.tn_base.specs.Options.{both}
-use Rattle.tn_law.specs.Nested.{CountTerm, AreNested, Cross, IsConcave, count_sum, listed_from}
-use Rattle.tn_law.proofs.NestedLemmas.{meets-nested}
-use Rattle.tn_law.proofs.ConcaveLemmas.{concave-listed}
+use Rattle.tn_firm_laws.specs.Nested.{CountTerm, AreNested, Cross, IsConcave, count_sum, listed_from}
+use Rattle.tn_firm_laws.proofs.NestedLemmas.{meets-nested}
+use Rattle.tn_firm_laws.proofs.ConcaveLemmas.{concave-listed}
 use Rattle.tn_market.specs.Valued.{IsWorthAtMost}
 use Rattle.tn_market.specs.Lawful.{IsLawful}
 use Rattle.tn_market.proofs.AscentLemmas.{smaller}
@@ -28,7 +28,7 @@ use Rattle.tn_laminar.specs.Sum.{HasNumbersWithin, IsLaminar, IsOwnSet, amount_a
 use Rattle.tn_laminar.specs.WithinLemmas.{HasNumbersUpTo, all_at, amounts_within, count_sum_within, laminar_sum_within}
 use Rattle.tn_base.specs.Widths.{most_amount}
 use Rattle.tn_market.specs.Widths.{most_own, most_worth}
-use Rattle.tn_plain_data.specs.Limits.{most_sets}
+use Rattle.tn_model.specs.Limits.{most_sets}
 
 -- the term at a place is that of the set there
 term_at : (sets : List LaminarSet) (k : ℕ) (term : CountTerm) → slice_get (map term_of sets) k ≡ Some term

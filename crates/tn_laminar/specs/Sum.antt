@@ -5,12 +5,12 @@ use Rattle.tn_base.specs.Firm.{Firm, net}
 use Rattle.tn_base.specs.Sets.{meet}
 use Rattle.tn_base.specs.Table.{buys_of}
 use Rattle.tn_base.specs.declared.side.Side.{Side}
-use Rattle.tn_law.specs.Nested.{CountTerm, nested_sum, listed_from}
+use Rattle.tn_firm_laws.specs.Nested.{CountTerm, nested_sum, listed_from}
 use Rattle.tn_laminar.specs.declared.set.LaminarSet.{LaminarSet}
 use Rattle.tn_laminar.specs.declared.masks.Masks.{Masks}
 use Rattle.tn_laminar.specs.Masked.{masks_of}
 use Rattle.tn_laminar.specs.Faults.{AreSound}
-use Rattle.tn_plain_data.specs.Limits.{most_from, most_values, most_sets}
+use Rattle.tn_model.specs.Limits.{most_from, most_values, most_sets}
 use Rattle.tn_base.specs.Widths.{most_amount}
 use Rattle.tn_market.specs.Widths.{most_own}
 
@@ -29,9 +29,9 @@ abbrev pub term_of : LaminarSet → CountTerm
 term_of set = record { members = set.members; number_at = listed_from set.low set.numbers }
 
 -- the number of a set at the net count of a bundle within it
-abbrev pub number_of : ℕ → ℕ → Option LaminarSet → Option ℤ
-number_of buys x (Some set) = listed_from set.low set.numbers (net buys (meet x set.members))
-number_of buys x None = None
+abbrev pub set_number : ℕ → ℕ → Option LaminarSet → Option ℤ
+set_number buys x (Some set) = listed_from set.low set.numbers (net buys (meet x set.members))
+set_number buys x None = None
 
 -- the amount at a position
 abbrev pub amount_at : List ℤ → ℕ → ℤ

@@ -11,8 +11,8 @@ use Rattle.tn_base.specs.Firm.{net}
 use Rattle.tn_base.specs.Options.{both}
 use Rattle.tn_base.specs.Table.{buys_of}
 use Rattle.tn_base.specs.declared.side.Side.{Side}
-use Rattle.tn_law.specs.Nested.{count_sum, listed_from, at_place}
-use Rattle.tn_law.proofs.BoundLemmas.{sum_over_small}
+use Rattle.tn_firm_laws.specs.Nested.{count_sum, listed_from, at_place}
+use Rattle.tn_firm_laws.proofs.BoundLemmas.{sum_over_small}
 use Rattle.tn_market.specs.Valued.{IsWorthAtMost}
 use Rattle.tn_laminar.specs.declared.set.LaminarSet.{LaminarSet}
 use Rattle.tn_laminar.specs.Sum.{amount_at, laminar_firm, laminar_sum, term_of}

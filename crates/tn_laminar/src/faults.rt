@@ -2,10 +2,10 @@
 
 ghost use Rattle.std.specs.Prelude.{◌<◌, ◌≤◌, ◌↔◌, length, All, IsTrue, Some, pos, ◌*ℤ◌, ◌+ℤ◌, ◌<ℤ◌};
 ghost use Rattle.tn_base.specs.Arcs.{IsAtMost};
-ghost use Rattle.tn_law.specs.Nested.{Cross};
+ghost use Rattle.tn_firm_laws.specs.Nested.{Cross};
 ghost use Rattle.tn_laminar.specs.Faults.{CrossesEarlier, IsBend, GivesFirstBend, GivesFault, GivesFirstFault};
 ghost use Rattle.tn_laminar.specs.Sum.{HasNumbersWithin};
-ghost use Rattle.tn_plain_data.specs.Limits.{most_sets, most_values};
+ghost use Rattle.tn_model.specs.Limits.{most_sets, most_values};
 ghost use Rattle.tn_base.specs.Widths.{most_amount};
 
 use crate::refusal::LaminarRefusal;

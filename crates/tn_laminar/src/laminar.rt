@@ -3,13 +3,13 @@
 ghost use Rattle.std.specs.Prelude.{map, slice_get, if◌then◌else◌, pos, ◌≡◌, ◌<◌, ◌≤◌, ◌*◌, length, All, IfOk, IfErr, IfSome};
 ghost use Rattle.tn_base.specs.Arcs.{IsAtMost};
 ghost use Rattle.tn_base.specs.Sets.{has, sum_over};
-ghost use Rattle.tn_law.specs.Nested.{count_sum};
+ghost use Rattle.tn_firm_laws.specs.Nested.{count_sum};
 ghost use Rattle.tn_laminar.specs.Faults.{AreSound, IsRefusedFor};
 ghost use Rattle.tn_laminar.specs.Masked.{masks_of};
-ghost use Rattle.tn_laminar.specs.Sum.{HasNumbersWithin, IsLaminar, IsOwnSet, amount_at, laminar_firm, number_of, term_of};
+ghost use Rattle.tn_laminar.specs.Sum.{HasNumbersWithin, IsLaminar, IsOwnSet, amount_at, laminar_firm, set_number, term_of};
 ghost use Rattle.tn_market.specs.Widths.{most_own};
 ghost use Rattle.tn_base.specs.Widths.{most_amount};
-ghost use Rattle.tn_plain_data.specs.Limits.{most_sets};
+ghost use Rattle.tn_model.specs.Limits.{most_sets};
 
 use crate::faults::first_fault;
 use crate::masks::Masks;
@@ -99,7 +99,7 @@ impl Laminar {
     /// The number of the set at place `k` at the net count of a bundle within it, None where it isn't listed.
     pub(crate) fn number(&self, x: Bundle, k: usize) -> Option<i128>
         requires { k < length self.now.sets.items }
-        ensures number { result ≡ number_of self.now.buys x (slice_get self.now.sets.items k) }
+        ensures number { result ≡ set_number self.now.buys x (slice_get self.now.sets.items k) }
         ensures small { IfSome result (λ number. IsAtMost number most_amount) }
     {
         self.sets[k].number_at(self.masks[k].net(x))

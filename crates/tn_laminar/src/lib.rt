@@ -3,7 +3,7 @@
 //! refused, stands in `specs/`.
 #![tactic(auto)]
 
-mod asked;
+mod as_valuation;
 mod faults;
 mod laminar;
 mod masks;

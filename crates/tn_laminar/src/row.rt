@@ -5,12 +5,12 @@ ghost use Rattle.std.specs.Prelude.{◌≡◌, ◌≢◌, ◌+◌, ◌*◌, ◌^
 ghost use Rattle.tn_base.specs.Arcs.{IsAtMost};
 ghost use Rattle.tn_base.specs.Sets.{has, sum_over, toggle};
 ghost use Rattle.tn_base.specs.Widths.{most_amount};
-ghost use Rattle.tn_law.specs.Nested.{listed_from};
+ghost use Rattle.tn_firm_laws.specs.Nested.{listed_from};
 ghost use Rattle.tn_market.specs.Widths.{most_own};
-ghost use Rattle.tn_plain_data.specs.Limits.{most_sets};
+ghost use Rattle.tn_model.specs.Limits.{most_sets};
 ghost use Rattle.tn_laminar.specs.Firms.{firm_of};
-ghost use Rattle.tn_laminar.specs.Rows.{AreChanges, IsSlope, counted, counted_sum, listed_sum, most_counted, step_of};
-ghost use Rattle.tn_laminar.specs.Sum.{HasNumbersWithin, amount_at, number_of};
+ghost use Rattle.tn_laminar.specs.Rows.{AreChanges, IsSlope, counted_or_unlisted, counted_sum, listed_sum, most_counted, step_of};
+ghost use Rattle.tn_laminar.specs.Sum.{HasNumbersWithin, amount_at, set_number};
 
 use crate::laminar::Laminar;
 use crate::set::LaminarSet;
@@ -24,9 +24,9 @@ const UNLISTED: i128 = -1_000_000_000_000;
 const LEAST_LISTED: i128 = -100_000_000_000;
 
 /// What a number counts in a sum.
-#[tactic(auto, unfolding(crate::specs::Rows::counted))]
-fn counted(number: Option<i128>) -> i128
-    ensures { result ≡ counted number }
+#[tactic(auto, unfolding(crate::specs::Rows::counted_or_unlisted))]
+fn counted_or_unlisted(number: Option<i128>) -> i128
+    ensures { result ≡ counted_or_unlisted number }
 {
     match number {
         Some(number) => number,
@@ -68,10 +68,10 @@ impl LaminarSet {
     fn counted_at(&self, count: i32) -> i128
         requires numbered { HasNumbersWithin self.now }
         requires count { IsAtMost count 65 }
-        ensures number { result ≡ counted (listed_from self.now.low self.now.numbers count) }
+        ensures number { result ≡ counted_or_unlisted (listed_from self.now.low self.now.numbers count) }
         ensures small { IsAtMost result most_counted }
     {
-        counted(self.number_at(count))
+        counted_or_unlisted(self.number_at(count))
     }
 }
 
@@ -79,10 +79,10 @@ impl Laminar {
     /// What the number of the set at place `k` counts at a bundle.
     fn counted_number(&self, x: Bundle, k: usize) -> i128
         requires { k < length self.now.sets.items }
-        ensures number { result ≡ counted (number_of self.now.buys x (slice_get self.now.sets.items k)) }
+        ensures number { result ≡ counted_or_unlisted (set_number self.now.buys x (slice_get self.now.sets.items k)) }
         ensures small { IsAtMost result most_counted }
     {
-        counted(self.number(x, k))
+        counted_or_unlisted(self.number(x, k))
     }
 
     /// What the sets' numbers count at a bundle.

@@ -2,8 +2,8 @@
 
 ghost use Rattle.std.specs.Prelude.{◌≡◌};
 ghost use Rattle.tn_base.specs.Arcs.{IsAtMost};
-ghost use Rattle.tn_law.specs.Nested.{listed_from};
-ghost use Rattle.tn_plain_data.specs.Limits.{most_from};
+ghost use Rattle.tn_firm_laws.specs.Nested.{listed_from};
+ghost use Rattle.tn_model.specs.Limits.{most_from};
 
 use tn_base::Bundle;
 use tn_market::Amounts;

@@ -5,13 +5,13 @@ use Rattle.std.proofs.lemmas.Bool.{cases_eq}
 use Rattle.std.proofs.lemmas.Int.{ints}
 use Rattle.tn_base.specs.Firm.{Firm}
 use Rattle.tn_base.specs.Exchange.{AreEnough, Fails}
-use Rattle.tn_law.specs.Places.{level, move, toggle_at, one_at, CanRise, CanFall, SwapsAt}
-use Rattle.tn_law.specs.Close.{AreClose}
-use Rattle.tn_law.proofs.SumLemmas.{one_at-same, one_at-other}
-use Rattle.tn_law.proofs.PlaceLemmas.{places}
-use Rattle.tn_law.proofs.DistanceLemmas.{gap, gap-nearer}
-use Rattle.tn_law.proofs.CloseMoves.{gap-itself}
-use Rattle.tn_law.proofs.ClosePairs.{close_from_gap, no_failure_from_swaps}
+use Rattle.tn_firm_laws.specs.Places.{level, move, toggle_at, one_at, CanRise, CanFall, SwapsAt}
+use Rattle.tn_firm_laws.specs.Close.{AreClose}
+use Rattle.tn_firm_laws.proofs.SumLemmas.{one_at-same, one_at-other}
+use Rattle.tn_firm_laws.proofs.PlaceLemmas.{places}
+use Rattle.tn_firm_laws.proofs.DistanceLemmas.{gap, gap-nearer}
+use Rattle.tn_firm_laws.proofs.CloseMoves.{gap-itself}
+use Rattle.tn_firm_laws.proofs.ClosePairs.{close_from_gap, no_failure_from_swaps}
 
 -- y is x with a and b lowered, and c and d raised
 pub record AreFourApart (firm : Firm) (x y a b c d : ℕ) : Type 0 where

@@ -4,8 +4,8 @@ use Rattle.std.proofs.lemmas.Bool.{cases_lt}
 use Rattle.tn_base.specs.Sets.{has}
 use Rattle.tn_base.specs.Firm.{Firm, HasOwnBundles}
 use Rattle.tn_base.proofs.SetLemmas.{same_below}
-use Rattle.tn_law.specs.Places.{trade_level}
-use Rattle.tn_law.specs.Close.{AreClose}
+use Rattle.tn_firm_laws.specs.Places.{trade_level}
+use Rattle.tn_firm_laws.specs.Close.{AreClose}
 use Rattle.tn_exchange.specs.TestOrder.{Triple, TripleFails}
 use Rattle.tn_exchange.specs.Verdicts.{IsVerdictOn}
 use Rattle.tn_exchange.specs.declared.verdict.Verdict.{Verdict}

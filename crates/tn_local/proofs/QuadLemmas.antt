@@ -6,9 +6,9 @@ use Rattle.std.proofs.lemmas.Int.{ints}
 use Rattle.tn_base.specs.Sets.{has, union, minus}
 use Rattle.tn_base.specs.Firm.{Firm}
 use Rattle.tn_base.proofs.SetLemmas.{has-union, has-minus}
-use Rattle.tn_law.specs.Places.{trade_level, move}
-use Rattle.tn_law.specs.Quads.{number, value, IsFree, AreFourFree, parted, QuadsExchangeAt}
-use Rattle.tn_law.proofs.PlaceLemmas.{places}
+use Rattle.tn_firm_laws.specs.Places.{trade_level, move}
+use Rattle.tn_firm_laws.specs.Quads.{number, value, IsFree, AreFourFree, parted, QuadsExchangeAt}
+use Rattle.tn_firm_laws.proofs.PlaceLemmas.{places}
 use Rattle.tn_local.specs.Quads.{StandsTwice, IsLow, AreLowTrades}
 
 -- what a bundle is worth, by what a table says

@@ -5,9 +5,9 @@ use Rattle.std.proofs.lemmas.Bool.{cases_lt}
 use Rattle.std.proofs.lemmas.Int.{ints}
 use Rattle.tn_base.specs.Sets.{toggle}
 use Rattle.tn_base.specs.Firm.{Firm}
-use Rattle.tn_law.specs.Places.{move}
-use Rattle.tn_law.specs.Quads.{value, IsFree, QuadsExchangeAt}
-use Rattle.tn_law.proofs.PlaceLemmas.{toggle_at-trade, toggle_at-null, move-both}
+use Rattle.tn_firm_laws.specs.Places.{move}
+use Rattle.tn_firm_laws.specs.Quads.{value, IsFree, QuadsExchangeAt}
+use Rattle.tn_firm_laws.proofs.PlaceLemmas.{toggle_at-trade, toggle_at-null, move-both}
 use Rattle.tn_local.specs.Quads.{IsNotAboveBoth, StandsTwice, IsLow, PairExchanges, ThreeExchange, OneExchanges}
 use Rattle.tn_local.proofs.QuadLemmas.{FourExchange, OrderedExchange, quads_from_ordered, ordered_from_quads}
 

@@ -9,8 +9,8 @@ use Rattle.tn_base.specs.Firm.{Firm, HasOwnBundles}
 use Rattle.tn_base.specs.Every.{HasEveryBundle}
 use Rattle.tn_base.specs.Exchange.{Fails, NoneFails}
 use Rattle.tn_base.proofs.SetLemmas.{has-toggle_same, has-toggle_other, same_set, has_above, has-double, has-double_one, has-double_lowest, has-double_one_lowest}
-use Rattle.tn_law.specs.Close.{AreClose}
-use Rattle.tn_law.proofs.ClosePairs.{close_pairs_decide}
+use Rattle.tn_firm_laws.specs.Close.{AreClose}
+use Rattle.tn_firm_laws.proofs.ClosePairs.{close_pairs_decide}
 use Rattle.tn_exchange.specs.TestOrder.{Triple, TripleFails}
 use Rattle.tn_exchange.specs.Verdicts.{IfFails, IsVerdictOn, HasTotal}
 use Rattle.tn_exchange.specs.declared.verdict.Verdict.{Verdict}

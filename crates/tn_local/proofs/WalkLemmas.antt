@@ -6,14 +6,14 @@ use Rattle.std.proofs.lemmas.Option.{same_Some, none-some}
 use Rattle.tn_base.specs.Sets.{has, toggle}
 use Rattle.tn_base.specs.Firm.{Firm}
 use Rattle.tn_base.proofs.SetLemmas.{has-toggle_same, has-toggle_other, same_below, toggle_within}
-use Rattle.tn_law.specs.Places.{trade_level, level, move, toggle_at, sum_to, one_at, CanRise, CanFall}
-use Rattle.tn_law.specs.Close.{AreClose}
-use Rattle.tn_law.proofs.SumLemmas.{one_at-same, one_at-other, sum_to-le}
-use Rattle.tn_law.proofs.PlaceLemmas.{places, level-trade, toggle_at-trade, toggle_at-null}
-use Rattle.tn_law.proofs.KeepLemmas.{has-toggle_at}
-use Rattle.tn_law.proofs.DistanceLemmas.{gap}
-use Rattle.tn_law.proofs.CloseMoves.{gap-itself, gap-symmetric, move-within, sum_to-single}
-use Rattle.tn_law.proofs.ClosePairs.{distance-gaps}
+use Rattle.tn_firm_laws.specs.Places.{trade_level, level, move, toggle_at, sum_to, one_at, CanRise, CanFall}
+use Rattle.tn_firm_laws.specs.Close.{AreClose}
+use Rattle.tn_firm_laws.proofs.SumLemmas.{one_at-same, one_at-other, sum_to-le}
+use Rattle.tn_firm_laws.proofs.PlaceLemmas.{places, level-trade, toggle_at-trade, toggle_at-null}
+use Rattle.tn_firm_laws.proofs.KeepLemmas.{has-toggle_at}
+use Rattle.tn_firm_laws.proofs.DistanceLemmas.{gap}
+use Rattle.tn_firm_laws.proofs.CloseMoves.{gap-itself, gap-symmetric, move-within, sum_to-single}
+use Rattle.tn_firm_laws.proofs.ClosePairs.{distance-gaps}
 use Rattle.tn_local.specs.Walk.{IsApartAt, AreApartAt, IsReached, NoneIsClose, IsKnown, with_one_more}
 use Rattle.tn_local.specs.declared.walk.Two.{Two}
 use Rattle.tn_local.specs.declared.walk.Sides.{Sides}

@@ -2,7 +2,7 @@
 use Rattle.std.specs.Prelude.{◌<◌, ◌≤◌}
 use Rattle.tn_base.specs.Firm.{Firm}
 use Rattle.tn_base.specs.Every.{HasEveryBundle}
-use Rattle.tn_law.specs.Close.{AreClose}
+use Rattle.tn_firm_laws.specs.Close.{AreClose}
 use Rattle.tn_exchange.specs.TestOrder.{Triple, IsFirstFailure}
 use Rattle.tn_exchange.specs.Verdicts.{IsFirstIn}
 

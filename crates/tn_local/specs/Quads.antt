@@ -2,8 +2,8 @@
 use Rattle.std.specs.Prelude.{◌≡◌, ℕ, ◌<◌, ℤ, ◌+ℤ◌, ◌≤ℤ◌, ◌↔◌, ◌⊎◌, true}
 use Rattle.tn_base.specs.Sets.{has, toggle}
 use Rattle.tn_base.specs.Firm.{Firm}
-use Rattle.tn_law.specs.Places.{trade_level}
-use Rattle.tn_law.specs.Quads.{value}
+use Rattle.tn_firm_laws.specs.Places.{trade_level}
+use Rattle.tn_firm_laws.specs.Quads.{value}
 
 -- a number is not above both of two others
 abbrev pub IsNotAboveBoth : ℤ → ℤ → ℤ → Type 0

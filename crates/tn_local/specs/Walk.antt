@@ -4,8 +4,8 @@ use Rattle.std.specs.Prelude.{◌≡◌, ◌≢◌, ℕ, ◌^◌, ◌<◌, ◌�
 use Rattle.tn_base.specs.Sets.{has}
 use Rattle.tn_base.specs.Firm.{Firm}
 use Rattle.tn_base.specs.Exchange.{AreEnough}
-use Rattle.tn_law.specs.Places.{trade_level, move}
-use Rattle.tn_law.specs.Close.{AreClose}
+use Rattle.tn_firm_laws.specs.Places.{trade_level, move}
+use Rattle.tn_firm_laws.specs.Close.{AreClose}
 use Rattle.tn_exchange.specs.TestOrder.{Triple}
 use Rattle.tn_local.specs.declared.walk.Two.{Two}
 use Rattle.tn_local.specs.declared.walk.Sides.{Sides}

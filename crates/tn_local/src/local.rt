@@ -5,8 +5,8 @@ ghost use Rattle.tn_base.specs.Arcs.{IsAtMost};
 ghost use Rattle.tn_base.specs.Every.{HasEveryBundle};
 ghost use Rattle.tn_base.specs.Exchange.{NoneFails};
 ghost use Rattle.tn_base.specs.Table.{buys_of};
-ghost use Rattle.tn_law.specs.Close.{AreClose};
-ghost use Rattle.tn_exchange.specs.Rows.{firm_of_table, IsWithinLimits};
+ghost use Rattle.tn_firm_laws.specs.Close.{AreClose};
+ghost use Rattle.tn_exchange.specs.Rows.{firm_of_table, IsTableWithinLimits};
 ghost use Rattle.tn_exchange.specs.Verdicts.{IfFails, IsVerdictOn};
 ghost use Rattle.tn_local.specs.First.{IsFirstCloseFailure};
 ghost use Rattle.tn_base.specs.Widths.{most_amount};
@@ -22,7 +22,7 @@ pub fn local_test(table: &RawTable) -> Verdict
     requires { HasEveryBundle (firm_of_table table.now) }
     ensures holds { (result ≡ Verdict.Holds) ↔ NoneFails (firm_of_table table.now) }
     ensures first { IfFails result (IsFirstCloseFailure (firm_of_table table.now)) }
-    ensures within { IsWithinLimits table.now }
+    ensures within { IsTableWithinLimits table.now }
 {
     let buys = table.buys();
     // that a table meets exchange shows soonest so

@@ -4,7 +4,7 @@ ghost use Rattle.std.specs.Prelude.{◌≡◌, ℕ, ◌^◌, ◌<◌, ◌+ℤ◌
 ghost use Rattle.tn_base.specs.Arcs.{IsAtMost};
 ghost use Rattle.tn_base.specs.Sets.{toggle};
 ghost use Rattle.tn_base.specs.Table.{buys_of};
-ghost use Rattle.tn_law.specs.Quads.{value, QuadsExchange, QuadsExchangeAt};
+ghost use Rattle.tn_firm_laws.specs.Quads.{value, QuadsExchange, QuadsExchangeAt};
 ghost use Rattle.tn_exchange.specs.Rows.{firm_of_table};
 ghost use Rattle.tn_local.specs.Quads.{IsNotAboveBoth, StandsTwice, PairExchanges, ThreeExchange, ThirdsExchange, TwoExchange, OneExchanges, AreLowTrades};
 ghost use Rattle.tn_base.specs.Widths.{most_amount};

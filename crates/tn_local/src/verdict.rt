@@ -2,7 +2,7 @@
 
 ghost use Rattle.std.specs.Prelude.{◌≡◌, ◌↔◌};
 ghost use Rattle.tn_base.specs.Exchange.{NoneFails};
-ghost use Rattle.tn_exchange.specs.Rows.{firm_of_table, IsWithinLimits};
+ghost use Rattle.tn_exchange.specs.Rows.{firm_of_table, IsTableWithinLimits};
 ghost use Rattle.tn_exchange.specs.Verdicts.{IfFails};
 ghost use Rattle.tn_local.specs.First.{IsFullIfLarge, IsFirstTriple};
 
@@ -15,7 +15,7 @@ pub fn test_table(table: &RawTable) -> Verdict
     requires { IsFullIfLarge (firm_of_table table.now) }
     ensures holds { (result ≡ Verdict.Holds) ↔ NoneFails (firm_of_table table.now) }
     ensures first { IfFails result (IsFirstTriple (firm_of_table table.now)) }
-    ensures within { IsWithinLimits table.now }
+    ensures within { IsTableWithinLimits table.now }
 {
     if !table.full() {
         return test(table);

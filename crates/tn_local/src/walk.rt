@@ -4,7 +4,7 @@ ghost use Rattle.std.specs.Prelude.{◌≡◌, ◌+◌, ◌^◌, ◌<◌, ◌≤
 ghost use Rattle.tn_base.specs.Arcs.{IsAtMost};
 ghost use Rattle.tn_base.specs.Sets.{toggle};
 ghost use Rattle.tn_base.specs.Table.{buys_of};
-ghost use Rattle.tn_law.specs.Places.{move, toggle_at, trade_level};
+ghost use Rattle.tn_firm_laws.specs.Places.{move, toggle_at, trade_level};
 ghost use Rattle.tn_exchange.specs.Rows.{firm_of_table};
 ghost use Rattle.tn_exchange.specs.Verdicts.{HasTotal, IsVerdictOn};
 ghost use Rattle.tn_local.specs.Walk.{OfClose, IsReached, IsKnown, PairsAreEnough, with_one_more};

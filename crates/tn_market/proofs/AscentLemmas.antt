@@ -11,10 +11,10 @@ use Rattle.tn_base.specs.Arcs.{IsAtMost}
 use Rattle.tn_base.specs.Firm.{Firm, plus_sum, HasOwnBundles, MayAbstain, IsBest}
 use Rattle.tn_base.specs.Exchange.{MeetsExchange}
 use Rattle.tn_base.proofs.SetLemmas.{has_above, has_from_minus-zero, minus-zero_from, has-zero, has-set_of, has-toggle_same, has-toggle_other, within_from, toggle_comm}
-use Rattle.tn_law.proofs.KeepLemmas.{meets-plus_sum, meets-among}
-use Rattle.tn_law.proofs.LocalLemmas.{local_to_global}
-use Rattle.tn_law.proofs.BoundLemmas.{times_small}
-use Rattle.tn_plain_data.specs.Prices.{price_at}
+use Rattle.tn_firm_laws.proofs.KeepLemmas.{meets-plus_sum, meets-among}
+use Rattle.tn_firm_laws.proofs.LocalLemmas.{local_to_global}
+use Rattle.tn_firm_laws.proofs.BoundLemmas.{times_small}
+use Rattle.tn_model.specs.Prices.{price_at}
 use Rattle.tn_market.specs.declared.bundle_value.BundleValue.{BundleValue}
 use Rattle.tn_market.specs.Ascent.{aimed, IsBesideBest, IsNearbyBest, IsValued, StaysAt, IsNoWorse, TriesOne, TriesOthers, TriesBeside, TriesNearby}
 use Rattle.tn_market.specs.Widths.{most_utility, most_worth, most_scale, most_own}

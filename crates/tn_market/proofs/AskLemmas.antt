@@ -8,7 +8,7 @@ use Rattle.tn_base.specs.Sets.{has, meet, set_of, sum_over}
 use Rattle.tn_base.specs.Arcs.{IsAtMost}
 use Rattle.tn_base.specs.Firm.{Firm, payments, utility, IsBest, HasOwnBundles}
 use Rattle.tn_base.proofs.SetLemmas.{same_set, has-zero, has-meet, has-union, has-set_of, has_below, set_of_within}
-use Rattle.tn_law.proofs.KeepLemmas.{option_map-some}
+use Rattle.tn_firm_laws.proofs.KeepLemmas.{option_map-some}
 use Rattle.tn_market.specs.Best.{IsBetween, IsBestBetween}
 use Rattle.tn_market.specs.Widths.{most_utility}
 

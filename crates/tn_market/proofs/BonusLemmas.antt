@@ -15,11 +15,11 @@ use Rattle.tn_base.specs.Firm.{Firm, payments, utility, IsBest}
 use Rattle.tn_base.proofs.SetLemmas.{has_from_minus-zero, minus-zero_from, has_below, has-union, has-zero, same_set, within_from}
 use Rattle.tn_base.proofs.SumLemmas.{sum_over-same_terms, sum_over-plus}
 use Rattle.tn_base.specs.declared.side.Side.TheVariants.{Buy, Sell}
-use Rattle.tn_law.proofs.BoundLemmas.{sum_over_small}
-use Rattle.tn_law.proofs.KeepLemmas.{option_map-some}
+use Rattle.tn_firm_laws.proofs.BoundLemmas.{sum_over_small}
+use Rattle.tn_firm_laws.proofs.KeepLemmas.{option_map-some}
 use Rattle.tn_market.specs.Valued.{side_at, IsWorthAtMost}
 use Rattle.tn_market.specs.Best.{IsBetween, IsBestBetween, GivesBest}
-use Rattle.tn_plain_data.specs.Prices.{price_at}
+use Rattle.tn_model.specs.Prices.{price_at}
 use Rattle.tn_market.specs.Ascent.{aimed, bonus, gain_at, payment_of, AreGains}
 use Rattle.tn_market.proofs.AscentLemmas.{aimed_some, aimed_none, scaled_small, smaller}
 use Rattle.tn_market.proofs.AskLemmas.{impossible_worth}

@@ -6,13 +6,13 @@ use Rattle.std.proofs.lemmas.Option.{same_Some, slice_get_cases, slice_get_past}
 use Rattle.tn_base.specs.Sets.{has, toggle}
 use Rattle.tn_base.specs.Firm.{Firm}
 use Rattle.tn_base.proofs.SetLemmas.{has-set_of}
-use Rattle.tn_law.specs.Places.{trade_level, level, move}
-use Rattle.tn_law.proofs.PlaceLemmas.{level-trade, move-both, move-to_null, move-from_null}
-use Rattle.tn_plain_data.specs.declared.ends.Ends.{Ends}
-use Rattle.tn_plain_data.specs.Network.{own, part, stands_at, IsNetwork}
+use Rattle.tn_firm_laws.specs.Places.{trade_level, level, move}
+use Rattle.tn_firm_laws.proofs.PlaceLemmas.{level-trade, move-both, move-to_null, move-from_null}
+use Rattle.tn_model.specs.declared.ends.Ends.{Ends}
+use Rattle.tn_model.specs.Network.{own, part, stands_at, IsNetwork}
 use Rattle.tn_market.specs.Graph.{raised, lowered, raised_by, lowered_by, loss, loss_at, arc_between, exchange_arc}
 use Rattle.tn_market.specs.ArcPlaces.{node_at, AreArcPlaces, common_firm, arc_firm}
-use Rattle.tn_plain_data.proofs.NetworkLemmas.{own_stands}
+use Rattle.tn_model.proofs.NetworkLemmas.{own_stands}
 
 pub node_at-trade : (trades : List Ends) (f n i : ℕ) → i < n → node_at trades f n i ≡ own trades f i
 node_at-trade trades f n i below = ap (λ (b : Bool). if b then own trades f i else length trades) (lt-ltb i n below)

@@ -10,7 +10,7 @@ use Rattle.tn_base.specs.Firm.{Firm}
 use Rattle.tn_base.proofs.SetLemmas.{has-meet, meet_within}
 use Rattle.tn_base.proofs.SizeLemmas.{size_at}
 use Rattle.tn_base.proofs.SumLemmas.{times-plus}
-use Rattle.tn_law.proofs.BoundLemmas.{small_abs, times_small}
+use Rattle.tn_firm_laws.proofs.BoundLemmas.{small_abs, times_small}
 use Rattle.tn_market.specs.Levied.{levy, levied, levied_limit, IsLevy}
 use Rattle.tn_market.specs.Widths.{most_limit}
 

@@ -7,10 +7,10 @@ use Rattle.std.proofs.lemmas.Grind.{common_steps}
 use Rattle.std.proofs.Math.ListN.{length-set}
 use Rattle.tn_base.specs.Sets.{has, toggle, set_of}
 use Rattle.tn_base.specs.Firm.{Firm}
-use Rattle.tn_plain_data.specs.declared.ends.Ends.{Ends}
-use Rattle.tn_plain_data.specs.Network.{own, part, stands_at, IsNetwork}
-use Rattle.tn_plain_data.proofs.NetworkLemmas.{own_stands}
-use Rattle.tn_plain_data.proofs.InOrderLemmas.{push_cases}
+use Rattle.tn_model.specs.declared.ends.Ends.{Ends}
+use Rattle.tn_model.specs.Network.{own, part, stands_at, IsNetwork}
+use Rattle.tn_model.proofs.NetworkLemmas.{own_stands}
+use Rattle.tn_model.proofs.InOrderLemmas.{push_cases}
 use Rattle.tn_market.specs.Traded.{AreOwn, HaveOwn, IsMarket, HasOnePlace, ArePlaced, Traded, sold_at, bought_at, placed}
 
 -- an element of a list after a write

@@ -2,9 +2,9 @@
 -- or null.
 use Rattle.std.specs.Prelude.{◌≢◌, ℕ, ◌≤◌, ltb, nat_le, ◌==◌, ◌&&◌, if◌then◌else◌, List, length, Option, Some, None}
 use Rattle.tn_base.specs.Firm.{Firm}
-use Rattle.tn_law.specs.Places.{level, CanRise, CanFall}
-use Rattle.tn_plain_data.specs.declared.ends.Ends.{Ends}
-use Rattle.tn_plain_data.specs.Network.{own}
+use Rattle.tn_firm_laws.specs.Places.{level, CanRise, CanFall}
+use Rattle.tn_model.specs.declared.ends.Ends.{Ends}
+use Rattle.tn_model.specs.Network.{own}
 use Rattle.tn_market.specs.Graph.{raised_by, lowered_by}
 
 -- the node of a place of firm f with n own trades: the trade at the position, and the null node for null

@@ -6,7 +6,7 @@ use Rattle.tn_base.specs.Firm.{Firm, plus_sum, among, payments, IsBest}
 use Rattle.tn_base.specs.declared.side.Side.{Side}
 use Rattle.tn_base.specs.declared.side.Side.TheVariants.{Buy, Sell}
 use Rattle.tn_market.specs.declared.bundle_value.BundleValue.{BundleValue}
-use Rattle.tn_plain_data.specs.Prices.{price_at}
+use Rattle.tn_model.specs.Prices.{price_at}
 use Rattle.tn_market.specs.Widths.{most_own, most_worth, most_scale, most_utility}
 
 -- the values that a search compares, as a firm: only within the allowed positions, the worth counted `scale` times, and

@@ -1,7 +1,7 @@
 -- Chains of contracts (Hatfield, Kominers, Nichifor, Ostrovsky and Westkamp, 2021).
 use Rattle.std.specs.Prelude.{◌≡◌, ℕ, ◌+◌, List, slice_get, Some}
-use Rattle.tn_plain_data.specs.declared.ends.Ends.{Ends}
-use Rattle.tn_plain_data.specs.declared.contract.Contract.{Contract}
+use Rattle.tn_model.specs.declared.ends.Ends.{Ends}
+use Rattle.tn_model.specs.declared.contract.Contract.{Contract}
 
 -- contracts are a chain in the listed order: the buyer of each is the seller of the next one
 abbrev pub IsChain : List Ends → List Contract → Type 0

@@ -1,8 +1,8 @@
 -- Equilibrium and surplus of a network. Prices are by trade number.
 use Rattle.std.specs.Prelude.{◌≡◌, ℕ, ◌+◌, ℤ, pos, ◌+ℤ◌, List, [], ◌∷◌, slice_get, Option, Some, option_and_then, option_map}
 use Rattle.tn_base.specs.Firm.{Firm, utility, IsBest}
-use Rattle.tn_plain_data.specs.declared.ends.Ends.{Ends}
-use Rattle.tn_plain_data.specs.Network.{own, part}
+use Rattle.tn_model.specs.declared.ends.Ends.{Ends}
+use Rattle.tn_model.specs.Network.{own, part}
 
 -- the prices at the positions of firm f
 abbrev pub prices_at : List Ends → (ℕ → ℤ) → ℕ → ℕ → ℤ

@@ -4,8 +4,8 @@ use Rattle.std.specs.Prelude.{◌≡◌, ℕ, ◌+◌, ◌*◌, ℤ, neg_ℤ, Li
 use Rattle.tn_base.specs.Options.{both}
 use Rattle.tn_base.specs.Sets.{has, toggle}
 use Rattle.tn_base.specs.Firm.{Firm}
-use Rattle.tn_plain_data.specs.declared.ends.Ends.{Ends}
-use Rattle.tn_plain_data.specs.Network.{part}
+use Rattle.tn_model.specs.declared.ends.Ends.{Ends}
+use Rattle.tn_model.specs.Network.{part}
 
 -- the firm that a toggle raises, with its position: the buyer of a trade that is off, the seller of one that is on
 abbrev pub raised : Ends → Bool → ℕ × ℕ

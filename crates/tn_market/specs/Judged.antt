@@ -1,11 +1,9 @@
 -- What may be said of an arrangement: a set of trades with prices for all trades.
 use Rattle.std.specs.Prelude.{◌≡◌, ℕ, ◌<◌, ℤ, pos, ◌-ℤ◌, ◌<ℤ◌, List, slice_get, Some, None}
 use Rattle.tn_base.specs.Firm.{Firm, IsBest}
-use Rattle.tn_plain_data.specs.declared.ends.Ends.{Ends}
-use Rattle.tn_plain_data.specs.declared.said.Said.{Said}
-use Rattle.tn_plain_data.specs.declared.said.Said.TheVariants.{Equilibrium, Better, Impossible}
-use Rattle.tn_plain_data.specs.Network.{part, trades_of}
-use Rattle.tn_market.specs.Equilibrium.{utility_at, HasBest, IsEquilibrium, surplus_of}
+use Rattle.tn_model.specs.declared.ends.Ends.{Ends}
+use Rattle.tn_model.specs.Network.{part}
+use Rattle.tn_market.specs.Equilibrium.{utility_at, HasBest}
 
 -- each firm before f has a best bundle
 abbrev pub AreBestBefore : List Firm → List Ends → ℤ → ℕ → (ℕ → ℤ) → ℕ → Type 0
@@ -32,12 +30,3 @@ pub record IsFirstBettered (firms : List Firm) (trades : List Ends) (scale : ℤ
   pub best : IsBest (utility_at trades scale prices f firm) x best_value
   pub gain_is : gain ≡ best_value -ℤ own_value
   pub gains : pos 0 <ℤ gain
-
--- the answer of `check`, none of another kind
-abbrev pub Judges : List Firm → List Ends → ℤ → ℕ → (ℕ → ℤ) → Said → Type 0
-Judges firms trades scale on prices (Equilibrium surplus) = IsEquilibrium firms trades scale on prices
-    × (surplus_of firms trades on ≡ Some surplus)
-Judges firms trades scale on prices (Better f bundle gain) = (x : ℕ)
-    × (at : IsFirstBettered firms trades scale on prices f x gain) × (bundle ≡ trades_of trades f at.firm.count x)
-Judges firms trades scale on prices (Impossible f) = IsFirstImpossible firms trades scale on prices f
-Judges firms trades scale on prices said = ⊥

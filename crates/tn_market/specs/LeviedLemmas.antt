@@ -7,8 +7,8 @@ use Rattle.tn_base.specs.Arcs.{IsAtMost}
 use Rattle.tn_base.specs.Sets.{has, sum_over}
 use Rattle.tn_base.specs.Firm.{Firm, HasOwnBundles, MayAbstain}
 use Rattle.tn_base.specs.Exchange.{MeetsExchange}
-use Rattle.tn_law.proofs.BoundLemmas.{small_abs, times_small, sum_over_small}
-use Rattle.tn_law.proofs.KeepLemmas.{option_map-some, meets-plus_sum}
+use Rattle.tn_firm_laws.proofs.BoundLemmas.{small_abs, times_small, sum_over_small}
+use Rattle.tn_firm_laws.proofs.KeepLemmas.{option_map-some, meets-plus_sum}
 use Rattle.tn_market.specs.Valued.{ExchangesOne, ExchangesNet, IsWorthAtMost, meets_exchange}
 use Rattle.tn_market.specs.Lawful.{IsLawful}
 use Rattle.tn_market.specs.Levied.{levy, levied, levied_limit, IsLevy}

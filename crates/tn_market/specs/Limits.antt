@@ -1,10 +1,10 @@
 -- The limits of markets and outcomes that may be judged.
 use Rattle.std.specs.Prelude.{◌≡◌, ℕ, ◌≤◌, ℤ, List, length, slice_get, Some}
 use Rattle.tn_base.specs.Firm.{Firm}
-use Rattle.tn_plain_data.specs.declared.ends.Ends.{Ends}
-use Rattle.tn_plain_data.specs.declared.contract.Contract.{Contract}
-use Rattle.tn_plain_data.specs.Limits.{most_firms, most_trades, most_worth_among}
-use Rattle.tn_plain_data.specs.OutcomeLimits.{IsOutcomeWithin}
+use Rattle.tn_model.specs.declared.ends.Ends.{Ends}
+use Rattle.tn_model.specs.declared.contract.Contract.{Contract}
+use Rattle.tn_model.specs.Limits.{most_firms, most_trades, most_worth_among}
+use Rattle.tn_model.specs.OutcomeLimits.{IsOutcomeWithin}
 use Rattle.tn_market.specs.Traded.{Traded}
 use Rattle.tn_market.specs.Valued.{IsWorthAtMost}
 use Rattle.tn_market.specs.Widths.{most_own, most_worth}

@@ -2,7 +2,7 @@
 -- buyer.
 use Rattle.std.specs.Prelude.{ℕ, Bool, ◌==◌, ℤ, pos, neg_ℤ, ◌+ℤ◌, if◌then◌else◌}
 use Rattle.tn_base.specs.Firm.{Firm}
-use Rattle.tn_law.specs.Additive.{additive}
+use Rattle.tn_firm_laws.specs.Additive.{additive}
 
 -- it has two positions: the first is bought, and worth the price, and the second is sold, and costs the price
 abbrev pub outside_amount : ℤ → ℕ → ℤ

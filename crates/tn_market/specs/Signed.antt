@@ -2,9 +2,9 @@
 use Rattle.std.specs.Prelude.{◌≡◌, ℕ, ℤ, pos, List, [], ◌∷◌, length, slice_get, Bool, false, ◌==◌, ◌||◌, if◌then◌else◌, Option, Some}
 use Rattle.tn_base.specs.Sets.{set_of}
 use Rattle.tn_base.specs.Firm.{Firm}
-use Rattle.tn_plain_data.specs.declared.ends.Ends.{Ends}
-use Rattle.tn_plain_data.specs.declared.contract.Contract.{Contract}
-use Rattle.tn_plain_data.specs.Network.{part}
+use Rattle.tn_model.specs.declared.ends.Ends.{Ends}
+use Rattle.tn_model.specs.declared.contract.Contract.{Contract}
+use Rattle.tn_model.specs.Network.{part}
 use Rattle.tn_market.specs.Best.{IsBestBetween}
 use Rattle.tn_market.specs.Equilibrium.{utility_at, IsEquilibrium}
 

@@ -1,8 +1,8 @@
 -- A market, as contracts see it, and what it keeps beside that.
 use Rattle.std.specs.Prelude.{◌≡◌, ℕ, ◌<◌, ◌≤◌, List, length, slice_get, Some, true, ◌==◌, if◌then◌else◌, slice_set}
 use Rattle.tn_base.specs.Firm.{Firm}
-use Rattle.tn_plain_data.specs.declared.ends.Ends.{Ends}
-use Rattle.tn_plain_data.specs.Network.{own, stands_at, IsNetwork}
+use Rattle.tn_model.specs.declared.ends.Ends.{Ends}
+use Rattle.tn_model.specs.Network.{own, stands_at, IsNetwork}
 use Rattle.tn_market.specs.Widths.{most_market_firms, most_market_trades}
 
 -- the firms of a market, of whatever type, and its trades

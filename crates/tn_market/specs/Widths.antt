@@ -1,6 +1,6 @@
 -- What there is room for in a market, whatever a document says.
 use Rattle.std.specs.Prelude.{ℕ, ◌*◌, ◌^◌}
-use Rattle.tn_plain_data.specs.Limits.{most_claimed_over, most_over, most_own_trades, most_worth as most_worth_of_any}
+use Rattle.tn_model.specs.Limits.{most_claimed_over, most_over, most_own_trades, most_worth_of_any}
 
 -- a market has at most so many firms
 abbrev pub most_market_firms : ℕ

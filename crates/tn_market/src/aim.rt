@@ -7,7 +7,7 @@ ghost use Rattle.tn_base.specs.Arcs.{IsAtMost};
 ghost use Rattle.tn_base.specs.Sets.{has, minus, sum_over};
 ghost use Rattle.tn_base.specs.Firm.{IsBest};
 ghost use Rattle.tn_market.specs.Ascent.{aimed, IsAim, IsValued, StaysAt, TriesOne, TriesOthers, TriesNearby};
-ghost use Rattle.tn_plain_data.specs.Prices.{price_at};
+ghost use Rattle.tn_model.specs.Prices.{price_at};
 ghost use Rattle.tn_market.specs.Widths.{most_worth, most_scale, most_own, most_utility, most_aimed};
 
 use crate::bundle_value::BundleValue;

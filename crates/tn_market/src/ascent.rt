@@ -8,7 +8,7 @@ ghost use Rattle.tn_base.specs.Firm.{utility};
 ghost use Rattle.tn_market.specs.Ascent.{AreGains, payment_of};
 ghost use Rattle.tn_market.specs.Best.{GivesBest};
 ghost use Rattle.tn_market.specs.BestFrom.{IsBestFrom};
-ghost use Rattle.tn_plain_data.specs.Prices.{price_at};
+ghost use Rattle.tn_model.specs.Prices.{price_at};
 ghost use Rattle.tn_market.specs.Widths.{most_own, most_worth, most_asked_price, most_scale, most_utility};
 
 use crate::aim::Aim;

@@ -1,5 +1,5 @@
 //! Markets of firms that code may ask, what a firm has to promise, and its best bundle; what an equilibrium is.
-//! The definitions, of verdicts and ranges too, stand in `specs/`. Plain data is handed on from `tn_plain_data`.
+//! The definitions, of verdicts and ranges too, stand in `specs/`. Plain data is handed on from `tn_model`.
 #![tactic(auto)]
 
 mod aim;
@@ -22,9 +22,8 @@ pub use nodes::said_nodes;
 pub use oracle::{MOST_OWN, MOST_WORTH, Oracle, utility_of, worth_of};
 pub use party::{Outside, Party};
 pub use room::Room;
-pub use tn_plain_data::{
-    Amounts, Arrangement, Claim, Contract, Contracts, Edit, Edits, Ends, Fault, Lent, Listed,
-    Nodes, Numbers, Outcome, Page, Place, PlaceStep, Prices, Range, Ranges, Reason, Said, Shown,
-    State, States, Topic, TradeEnds, Trades, Word, count_own, sides_of,
+pub use tn_model::{
+    Amounts, Arrangement, Contract, Contracts, Ends, Lent, Listed, Nodes, Outcome, Prices, Range,
+    Ranges, TradeEnds, Trades, count_own, sides_of,
 };
 pub use valuation::Valuation;

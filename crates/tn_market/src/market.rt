@@ -2,7 +2,7 @@
 
 ghost use Rattle.std.specs.Prelude.{◌≡◌, ◌*◌, ◌<◌, ◌≤◌, Some, All, IfOk, length, map, slice_get, get_or};
 ghost use Rattle.tn_base.specs.Sets.{has, set_of};
-ghost use Rattle.tn_plain_data.specs.Network.{own, part, IsNetwork};
+ghost use Rattle.tn_model.specs.Network.{own, part, IsNetwork};
 ghost use Rattle.tn_market.specs.NetworkOf.{network_of};
 ghost use Rattle.tn_market.specs.Traded.{AreOwn, HasOnePlace, placed};
 ghost use Rattle.tn_market.specs.Widths.{most_market_firms, most_market_trades};
@@ -11,7 +11,7 @@ use crate::valuation::Valuation;
 use std::alloc::Global;
 use std::marker::Model;
 use tn_base::{Bundle, OutOfMemory, TradeSet};
-use tn_plain_data::Ends;
+use tn_model::Ends;
 
 /// Firms and the trades between them, which fit together: at most 2,048 of each.
 ///

@@ -5,7 +5,7 @@ ghost use Rattle.tn_market.specs.Supported.{said_node};
 
 use std::alloc::Global;
 use tn_base::OutOfMemory;
-use tn_plain_data::Nodes;
+use tn_model::Nodes;
 
 /// A node as it is said: the null node as none.
 fn said_node(node: u32, null: u32) -> Option<u32>

@@ -12,7 +12,7 @@ use Rattle.tn_base.proofs.SetLemmas.{has-meet, has-minus, has-zero, has-toggle_o
 use Rattle.tn_base.proofs.SizeLemmas.{size-zero, size-toggle_in, size-toggle_out}
 use Rattle.tn_base.proofs.SumLemmas.{sum_over-empty, sum_over-toggle_in}
 use Rattle.tn_base.proofs.FirmLemmas.{meet-toggle_in, meet-toggle_out, minus-toggle_in, minus-toggle_out}
-use Rattle.tn_middle.specs.Pairs.{number_at, by_counts, pair_worth, pairing}
+use Rattle.tn_middle.specs.Pairs.{own_number, by_counts, pair_worth, pairing}
 use Rattle.tn_middle.specs.PairLaw.{IsOnePurchase, IsPair, MiddlemenPair}
 use Rattle.tn_middle.specs.SetLemmas.{empty_from_counts}
 use Rattle.tn_middle.specs.LawLemmas.{pairing-empty, meet-none, minus-none}
@@ -29,24 +29,24 @@ not_true false e = refl
 
 -- a bundle of own positions is worth what its counts say
 worth_by_counts : (count buys : ℕ) (numbers : List ℤ) (keep : Option ℤ) (x p s : ℕ) (balance : ℤ) → x < 2 ^ count
-    → size (meet x buys) ≡ p → size (minus x buys) ≡ s → sum_over (payments buys (number_at numbers)) count x ≡ balance
+    → size (meet x buys) ≡ p → size (minus x buys) ≡ s → sum_over (payments buys (own_number numbers)) count x ≡ balance
     → pair_worth count buys numbers keep x ≡ by_counts p s keep balance
 worth_by_counts count buys numbers keep x p s balance own p_is s_is balance_is =
     ap (λ b. if b
     then by_counts (size (meet x buys)) (size (minus x buys)) keep
-    (sum_over (payments buys (number_at numbers)) count x) else None) (lt-ltb x (2 ^ count) own)
-    ∙ ap (λ (n : ℕ). by_counts n (size (minus x buys)) keep (sum_over (payments buys (number_at numbers)) count x)) p_is
-    ∙ ap (λ (n : ℕ). by_counts p n keep (sum_over (payments buys (number_at numbers)) count x)) s_is
+    (sum_over (payments buys (own_number numbers)) count x) else None) (lt-ltb x (2 ^ count) own)
+    ∙ ap (λ (n : ℕ). by_counts n (size (minus x buys)) keep (sum_over (payments buys (own_number numbers)) count x)) p_is
+    ∙ ap (λ (n : ℕ). by_counts p n keep (sum_over (payments buys (own_number numbers)) count x)) s_is
     ∙ ap (by_counts p s keep) balance_is
 
 -- the cost of a purchase, and the gain of a sale
 payment-bought : (buys : ℕ) (numbers : List ℤ) (k : ℕ) → has buys k ≡ true
-    → payments buys (number_at numbers) k ≡ neg_ℤ (number_at numbers k)
-payment-bought buys numbers k e = ap (λ b. if b then neg_ℤ (number_at numbers k) else number_at numbers k) e
+    → payments buys (own_number numbers) k ≡ neg_ℤ (own_number numbers k)
+payment-bought buys numbers k e = ap (λ b. if b then neg_ℤ (own_number numbers k) else own_number numbers k) e
 
 payment-sold : (buys : ℕ) (numbers : List ℤ) (k : ℕ) → has buys k ≡ false
-    → payments buys (number_at numbers) k ≡ number_at numbers k
-payment-sold buys numbers k e = ap (λ b. if b then neg_ℤ (number_at numbers k) else number_at numbers k) e
+    → payments buys (own_number numbers) k ≡ own_number numbers k
+payment-sold buys numbers k e = ap (λ b. if b then neg_ℤ (own_number numbers k) else own_number numbers k) e
 
 -- one purchase
 one_purchases : (buys b : ℕ) → has buys b ≡ true → size (meet (toggle 0 b) buys) ≡ 1
@@ -59,25 +59,25 @@ one_sales : (buys b : ℕ) → has buys b ≡ true → size (minus (toggle 0 b) 
 one_sales buys b bought = ap size (minus-toggle_out 0 buys b bought ∙ minus-none buys) ∙ size-zero
 
 one_balance : (count buys : ℕ) (numbers : List ℤ) (b : ℕ) → b < count → has buys b ≡ true
-    → sum_over (payments buys (number_at numbers)) count (toggle 0 b) ≡ neg_ℤ (number_at numbers b)
+    → sum_over (payments buys (own_number numbers)) count (toggle 0 b) ≡ neg_ℤ (own_number numbers b)
 one_balance count buys numbers b own bought =
-    let more = sum_over-toggle_in (payments buys (number_at numbers)) count 0 b own (has-zero b) in
-    let none = sum_over-empty (payments buys (number_at numbers)) count in
+    let more = sum_over-toggle_in (payments buys (own_number numbers)) count 0 b own (has-zero b) in
+    let none = sum_over-empty (payments buys (own_number numbers)) count in
     let cost = payment-bought buys numbers b bought in
     omega (arith, ints, more, none, cost)
 
 kept_of : (count buys : ℕ) (numbers : List ℤ) (keep : Option ℤ) (b : ℕ) → b < count → has buys b ≡ true
-    → pair_worth count buys numbers keep (toggle 0 b) ≡ option_map (λ number. number -ℤ number_at numbers b) keep
+    → pair_worth count buys numbers keep (toggle 0 b) ≡ option_map (λ number. number -ℤ own_number numbers b) keep
 kept_of count buys numbers keep b own bought =
-    worth_by_counts count buys numbers keep (toggle 0 b) 1 0 (neg_ℤ (number_at numbers b))
+    worth_by_counts count buys numbers keep (toggle 0 b) 1 0 (neg_ℤ (own_number numbers b))
     (toggle_within 0 b count (pow_pos count) own)
     (one_purchases buys b bought) (one_sales buys b bought) (one_balance count buys numbers b own bought)
     ∙ by keep
   where
-    by : (o : Option ℤ) → option_map (λ number. number +ℤ neg_ℤ (number_at numbers b)) o
-        ≡ option_map (λ number. number -ℤ number_at numbers b) o
+    by : (o : Option ℤ) → option_map (λ number. number +ℤ neg_ℤ (own_number numbers b)) o
+        ≡ option_map (λ number. number -ℤ own_number numbers b) o
     by None = refl
-    by (Some number) = let e : number +ℤ neg_ℤ (number_at numbers b) ≡ number -ℤ number_at numbers b =
+    by (Some number) = let e : number +ℤ neg_ℤ (own_number numbers b) ≡ number -ℤ own_number numbers b =
         omega (arith, ints) in ap Some e
 
 -- one purchase and one sale
@@ -87,16 +87,16 @@ absent_sale buys b s bought sold =
 
 paired_of : (count buys : ℕ) (numbers : List ℤ) (keep : Option ℤ) (b s : ℕ) → b < count → has buys b ≡ true → s < count
     → has buys s ≡ false
-    → pair_worth count buys numbers keep (toggle (toggle 0 b) s) ≡ Some (number_at numbers s -ℤ number_at numbers b)
+    → pair_worth count buys numbers keep (toggle (toggle 0 b) s) ≡ Some (own_number numbers s -ℤ own_number numbers b)
 paired_of count buys numbers keep b s b_own bought s_own sold =
     let own = toggle_within 0 b count (pow_pos count) b_own in
-    let more = sum_over-toggle_in (payments buys (number_at numbers)) count (toggle 0 b) s s_own
+    let more = sum_over-toggle_in (payments buys (own_number numbers)) count (toggle 0 b) s s_own
     (absent_sale buys b s bought sold) in
     let one = one_balance count buys numbers b b_own bought in
     let gain = payment-sold buys numbers s sold in
     let sale = size-toggle_in 0 s (has-zero s) in
     let none = size-zero in
-    worth_by_counts count buys numbers keep (toggle (toggle 0 b) s) 1 1 (number_at numbers s -ℤ number_at numbers b)
+    worth_by_counts count buys numbers keep (toggle (toggle 0 b) s) 1 1 (own_number numbers s -ℤ own_number numbers b)
     (toggle_within (toggle 0 b) s count own s_own)
     (ap size (meet-toggle_out (toggle 0 b) buys s sold) ∙ one_purchases buys b bought)
     (ap size (minus-toggle_in (toggle 0 b) buys s sold ∙ ap (λ (z : ℕ). toggle z s) (minus-toggle_out 0 buys b bought
@@ -185,17 +185,17 @@ only_of count buys numbers keep x a is = elim (cases_lt x (2 ^ count)) [
       absurd (none-some a
       (sym (ap (λ b. if b
       then by_counts (size (meet x buys)) (size (minus x buys)) keep
-      (sum_over (payments buys (number_at numbers)) count x) else None)
+      (sum_over (payments buys (own_number numbers)) count x) else None)
       (le-ltb x (2 ^ count) above)) ∙ is))
   | inl own ↦ by own (size (meet x buys)) (size (minus x buys)) refl refl
       (sym (ap (λ b. if b
       then by_counts (size (meet x buys)) (size (minus x buys)) keep
-      (sum_over (payments buys (number_at numbers)) count x) else None)
+      (sum_over (payments buys (own_number numbers)) count x) else None)
       (lt-ltb x (2 ^ count) own)) ∙ is)
 ]
   where
     by : x < 2 ^ count → (p s : ℕ) → size (meet x buys) ≡ p → size (minus x buys) ≡ s
-        → by_counts p s keep (sum_over (payments buys (number_at numbers)) count x) ≡ Some a
+        → by_counts p s keep (sum_over (payments buys (own_number numbers)) count x) ≡ Some a
         → (x ≡ 0) ⊎ (IsOnePurchase (pairing count buys numbers keep) x ⊎ IsPair (pairing count buys numbers keep) x)
     by own zero zero p_is s_is e = inl (empty_from_counts x buys p_is s_is)
     by own zero (suc s) p_is s_is e = absurd (none-some a e)

@@ -11,7 +11,7 @@ use Rattle.tn_market.specs.Lawful.{IsLawful}
 use Rattle.tn_market.proofs.AscentLemmas.{smaller}
 use Rattle.tn_middle.specs.declared.middle.Middle.{Middle}
 use Rattle.tn_middle.specs.Firms.{firm_of}
-use Rattle.tn_middle.specs.Pairs.{IsMiddle, number_at, by_counts, pair_worth, pairing}
+use Rattle.tn_middle.specs.Pairs.{IsMiddle, own_number, by_counts, pair_worth, pairing}
 use Rattle.tn_middle.specs.SetLemmas.{meets}
 use Rattle.tn_middle.specs.WithinLemmas.{pairing_within}
 use Rattle.tn_base.specs.Widths.{most_amount}
@@ -31,10 +31,10 @@ pairing-empty count buys numbers keep =
     let own : 0 < 2 ^ count = pow_pos count in
     ap (λ b. if b
     then by_counts (size (meet 0 buys)) (size (minus 0 buys)) keep
-    (sum_over (payments buys (number_at numbers)) count 0) else None) (lt-ltb 0 (2 ^ count) own)
-    ∙ ap (λ (p : ℕ). by_counts p (size (minus 0 buys)) keep (sum_over (payments buys (number_at numbers)) count 0))
+    (sum_over (payments buys (own_number numbers)) count 0) else None) (lt-ltb 0 (2 ^ count) own)
+    ∙ ap (λ (p : ℕ). by_counts p (size (minus 0 buys)) keep (sum_over (payments buys (own_number numbers)) count 0))
     (ap size (meet-none buys) ∙ size-zero)
-    ∙ ap (λ (s : ℕ). by_counts 0 s keep (sum_over (payments buys (number_at numbers)) count 0))
+    ∙ ap (λ (s : ℕ). by_counts 0 s keep (sum_over (payments buys (own_number numbers)) count 0))
     (ap size (minus-none buys) ∙ size-zero)
 
 within_of : (count buys : ℕ) (numbers : List ℤ) (keep : Option ℤ) → IsMiddle count buys numbers keep

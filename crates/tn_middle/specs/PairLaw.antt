@@ -3,7 +3,7 @@ use Rattle.std.specs.Prelude.{◌≡◌, ℕ, ◌<◌, ◌⊎◌, true, false, �
 use Rattle.tn_base.specs.Sets.{has, toggle}
 use Rattle.tn_base.specs.Firm.{Firm}
 use Rattle.tn_base.specs.declared.side.Side.{Side}
-use Rattle.tn_middle.specs.Pairs.{number_at, middle_firm}
+use Rattle.tn_middle.specs.Pairs.{own_number, middle_firm}
 
 -- the position is a purchase
 pub record IsPurchase (firm : Firm) (k : ℕ) : Type 0 where
@@ -34,10 +34,10 @@ pub record IsPairing (firm : Firm) (numbers : List ℤ) (keep : Option ℤ) : Ty
   pub none : firm.worth 0 ≡ Some (pos 0)
   -- a purchase alone is worth what it is kept for less its cost, where it may be kept
   pub kept : (b : ℕ) → IsPurchase firm b → firm.worth (toggle 0 b)
-      ≡ option_map (λ number. number -ℤ number_at numbers b) keep
+      ≡ option_map (λ number. number -ℤ own_number numbers b) keep
   -- a purchase with a sale is worth the gain less the cost
   pub paired : (b s : ℕ) → IsPurchase firm b → IsSale firm s
-      → firm.worth (toggle (toggle 0 b) s) ≡ Some (number_at numbers s -ℤ number_at numbers b)
+      → firm.worth (toggle (toggle 0 b) s) ≡ Some (own_number numbers s -ℤ own_number numbers b)
   -- nothing else is possible
   pub only : (x : ℕ) (a : ℤ) → firm.worth x ≡ Some a → (x ≡ 0) ⊎ (IsOnePurchase firm x ⊎ IsPair firm x)
 

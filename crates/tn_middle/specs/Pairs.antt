@@ -10,8 +10,8 @@ use Rattle.tn_market.specs.Widths.{most_own}
 use Rattle.tn_base.specs.Widths.{most_amount}
 
 -- the cost of the purchase, or the gain of the sale, at a position
-abbrev pub number_at : List ℤ → ℕ → ℤ
-number_at numbers k = get_or numbers k (pos 0)
+abbrev pub own_number : List ℤ → ℕ → ℤ
+own_number numbers k = get_or numbers k (pos 0)
 
 -- the worth of so many purchases and sales, by the gains of these sales less the costs of these purchases: no trade is
 -- worth 0; a purchase alone may be kept, where that is worth something; a purchase goes with a sale; and nothing else
@@ -28,7 +28,7 @@ abbrev pub pair_worth : ℕ → ℕ → List ℤ → Option ℤ → ℕ → Opti
 pair_worth count buys numbers keep x =
     if nat_lt x (2 ^ count)
     then by_counts (size (meet x buys)) (size (minus x buys)) keep
-    (sum_over (payments buys (number_at numbers)) count x)
+    (sum_over (payments buys (own_number numbers)) count x)
     else None
 
 abbrev pub pairing : ℕ → ℕ → List ℤ → Option ℤ → Firm

@@ -12,10 +12,10 @@ use Rattle.tn_base.proofs.SetLemmas.{same_set, has-meet, has-minus, has-zero, ha
 use Rattle.tn_base.proofs.SizeLemmas.{size-zero, size-toggle_out}
 use Rattle.tn_base.proofs.SumLemmas.{sum_over-empty}
 use Rattle.tn_base.specs.Options.{both}
-use Rattle.tn_law.specs.Nested.{CountTerm, AreNested, Cross, IsConcave, IsConcaveList, count_sum, nested_sum, listed_from, at_place}
-use Rattle.tn_law.proofs.NestedLemmas.{meets-nested}
-use Rattle.tn_law.proofs.ConcaveLemmas.{concave-listed}
-use Rattle.tn_middle.specs.Pairs.{number_at, by_counts, pair_worth, pairing}
+use Rattle.tn_firm_laws.specs.Nested.{CountTerm, AreNested, Cross, IsConcave, IsConcaveList, count_sum, nested_sum, listed_from, at_place}
+use Rattle.tn_firm_laws.proofs.NestedLemmas.{meets-nested}
+use Rattle.tn_firm_laws.proofs.ConcaveLemmas.{concave-listed}
+use Rattle.tn_middle.specs.Pairs.{own_number, by_counts, pair_worth, pairing}
 
 -- all positions
 abbrev pub all_of : ℕ → ℕ
@@ -217,7 +217,7 @@ empty_from_counts x buys no_purchase no_sale = same_set x 0 (λ k. elim (cases_B
 
 abbrev pub pair_sum : ℕ → ℕ → List ℤ → Option ℤ → Firm
 pair_sum count buys numbers keep =
-    nested_sum count buys (payments buys (number_at numbers)) (pair_terms count buys keep)
+    nested_sum count buys (payments buys (own_number numbers)) (pair_terms count buys keep)
 
 -- the two firms have the same worths
 same_worth : (count buys : ℕ) (numbers : List ℤ) (keep : Option ℤ) (x : ℕ)
@@ -226,29 +226,29 @@ unfolding total
 same_worth count buys numbers keep x = elim (cases_lt x (2 ^ count)) [
   | inr above ↦
       ap (λ b. if b
-      then both (Some (sum_over (payments buys (number_at numbers)) count x))
+      then both (Some (sum_over (payments buys (own_number numbers)) count x))
       (count_sum buys (pair_terms count buys keep) x) else None) (le-ltb x (2 ^ count) above)
       ∙ sym (ap (λ b. if b
       then by_counts (size (meet x buys)) (size (minus x buys)) keep
-      (sum_over (payments buys (number_at numbers)) count x) else None) (le-ltb x (2 ^ count) above))
+      (sum_over (payments buys (own_number numbers)) count x) else None) (le-ltb x (2 ^ count) above))
   | inl own ↦
       let first = net-purchases x buys in
       let second = net-sales x count buys own in
       let third = net-trades x count buys own in
       ap (λ b. if b
-      then both (Some (sum_over (payments buys (number_at numbers)) count x))
+      then both (Some (sum_over (payments buys (own_number numbers)) count x))
       (count_sum buys (pair_terms count buys keep) x) else None) (lt-ltb x (2 ^ count) own)
       ∙ same_by_counts (size (meet x buys)) (size (minus x buys)) keep
-      (sum_over (payments buys (number_at numbers)) count x)
+      (sum_over (payments buys (own_number numbers)) count x)
       (net buys (meet x buys) -ℤ pos 0) (net buys (meet x (minus (all_of count) buys)) -ℤ negsuc 0)
       (net buys (meet x (all_of count)) -ℤ pos 0)
       (omega (arith, ints, first)) (omega (arith, ints, second)) (omega (arith, ints, third))
-      (λ no_purchase no_sale. ap (sum_over (payments buys (number_at numbers)) count)
+      (λ no_purchase no_sale. ap (sum_over (payments buys (own_number numbers)) count)
       (empty_from_counts x buys no_purchase no_sale)
-      ∙ sum_over-empty (payments buys (number_at numbers)) count)
+      ∙ sum_over-empty (payments buys (own_number numbers)) count)
       ∙ sym (ap (λ b. if b
       then by_counts (size (meet x buys)) (size (minus x buys)) keep
-      (sum_over (payments buys (number_at numbers)) count x) else None) (lt-ltb x (2 ^ count) own))
+      (sum_over (payments buys (own_number numbers)) count x) else None) (lt-ltb x (2 ^ count) own))
 ]
 
 same_firm : (count buys : ℕ) (numbers : List ℤ) (keep : Option ℤ)
@@ -351,5 +351,5 @@ pub meets : (count buys : ℕ) (numbers : List ℤ) (keep : Option ℤ) → buys
     → HasOwnBundles (pairing count buys numbers keep) × MeetsExchange (pairing count buys numbers keep)
 meets count buys numbers keep bought =
     subst (λ firm. HasOwnBundles firm × MeetsExchange firm) (same_firm count buys numbers keep)
-    (meets-nested count buys (payments buys (number_at numbers)) (pair_terms count buys keep)
+    (meets-nested count buys (payments buys (own_number numbers)) (pair_terms count buys keep)
     (are_nested count buys keep bought))

@@ -11,13 +11,13 @@ use Rattle.tn_base.specs.Sets.{has, meet, minus, size, sum_over}
 use Rattle.tn_base.specs.Firm.{payments}
 use Rattle.tn_base.specs.Table.{buys_of}
 use Rattle.tn_base.specs.declared.side.Side.{Side}
-use Rattle.tn_law.proofs.BoundLemmas.{sum_over_small}
+use Rattle.tn_firm_laws.proofs.BoundLemmas.{sum_over_small}
 use Rattle.tn_market.specs.Valued.{IsWorthAtMost}
-use Rattle.tn_middle.specs.Pairs.{number_at, by_counts, pairing, middle_firm}
+use Rattle.tn_middle.specs.Pairs.{own_number, by_counts, pairing, middle_firm}
 
 -- what a position adds is small
 payment_within : (buys : ℕ) (numbers : List ℤ) (k amount : ℕ) → k < length numbers
-    → All (λ a. IsAtMost a amount) numbers → IsAtMost (payments buys (number_at numbers) k) amount
+    → All (λ a. IsAtMost a amount) numbers → IsAtMost (payments buys (own_number numbers) k) amount
 payment_within buys numbers k amount inside small =
     by (has buys k) (get_or numbers k (pos 0)) (All-get_or (λ a. IsAtMost a amount) numbers k (pos 0) inside small)
   where
@@ -31,9 +31,9 @@ payment_within buys numbers k amount inside small =
 -- a balance is at most the amount for each own trade
 balance_within : (count buys : ℕ) (numbers : List ℤ) (x amount : ℕ) → length numbers ≡ count
     → All (λ a. IsAtMost a amount) numbers
-    → IsAtMost (sum_over (payments buys (number_at numbers)) count x) (count * amount)
+    → IsAtMost (sum_over (payments buys (own_number numbers)) count x) (count * amount)
 balance_within count buys numbers x amount as_many small =
-    sum_over_small (payments buys (number_at numbers)) count x amount
+    sum_over_small (payments buys (own_number numbers)) count x amount
     (λ k h. payment_within buys numbers k amount (omega (arith, h, as_many)) small)
 
 -- a worth, by the counts
@@ -64,13 +64,13 @@ pairing_within count buys numbers keep amount as_many small small_keep x a worth
   where
     by : (b : Bool)
         → (if b then by_counts (size (meet x buys)) (size (minus x buys)) keep
-        (sum_over (payments buys (number_at numbers)) count x) else None) ≡ Some a
+        (sum_over (payments buys (own_number numbers)) count x) else None) ≡ Some a
         → IsAtMost a ((count + 1) * amount)
     by false e = absurd (none-some a e)
     by true e =
         let each : (count + 1) * amount ≡ count * amount + amount = omega arith in
         subst (IsAtMost a) (sym each) (counts_within (size (meet x buys)) (size (minus x buys)) keep
-        (sum_over (payments buys (number_at numbers)) count x) a amount (count * amount) small_keep
+        (sum_over (payments buys (own_number numbers)) count x) a amount (count * amount) small_keep
         (balance_within count buys numbers x amount as_many small) e)
 
 pub middle_within : (sides : List Side) (numbers : List ℤ) (keep : Option ℤ) (amount : ℕ)

@@ -5,7 +5,7 @@ ghost use Rattle.std.specs.Option.{ForSome};
 ghost use Rattle.tn_base.specs.Arcs.{IsAtMost};
 ghost use Rattle.tn_base.specs.Sets.{has, meet, minus, size, sum_over};
 ghost use Rattle.tn_base.specs.Firm.{payments};
-ghost use Rattle.tn_middle.specs.Pairs.{IsMiddle, by_counts, number_at, middle_firm};
+ghost use Rattle.tn_middle.specs.Pairs.{IsMiddle, by_counts, own_number, middle_firm};
 ghost use Rattle.tn_market.specs.Widths.{most_own};
 ghost use Rattle.tn_base.specs.Widths.{most_amount};
 
@@ -46,7 +46,7 @@ impl Middle {
     /// What position `k` adds to the balance of a bundle: the gain of a sale, less the cost of a purchase.
     fn balance_at(&self, x: Bundle, k: u32) -> i128
         requires { k < self.now.trades }
-        ensures term { result ≡ (if has x k then payments self.now.buys (number_at self.now.numbers.items) k
+        ensures term { result ≡ (if has x k then payments self.now.buys (own_number self.now.numbers.items) k
             else pos 0) }
         ensures small { IsAtMost result most_amount }
     {
@@ -61,7 +61,7 @@ impl Middle {
     /// The gains of a bundle's sales, less the costs of its purchases.
     #[tactic(auto, unfolding(tn_base::specs::Sets::sum_over))]
     fn balance(&self, x: Bundle) -> i128
-        ensures sum { result ≡ sum_over (payments self.now.buys (number_at self.now.numbers.items)) self.now.trades x }
+        ensures sum { result ≡ sum_over (payments self.now.buys (own_number self.now.numbers.items)) self.now.trades x }
         ensures small { IsAtMost result (most_own * most_amount) }
     {
         let mut total = 0;
@@ -74,7 +74,7 @@ impl Middle {
     /// What a bundle of own trades is worth, None where it is impossible.
     pub(crate) fn worth(&self, x: Bundle) -> Option<i128>
         ensures { result ≡ by_counts (size (meet x self.now.buys)) (size (minus x self.now.buys)) self.now.keep
-            (sum_over (payments self.now.buys (number_at self.now.numbers.items)) self.now.trades x) }
+            (sum_over (payments self.now.buys (own_number self.now.numbers.items)) self.now.trades x) }
     {
         match (x.meet(self.buys).count(), x.minus(self.buys).count()) {
             (0, 0) => Some(0),

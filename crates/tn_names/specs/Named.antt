@@ -1,11 +1,11 @@
 -- Which faults speak of named trades alone, in ascending lists.
 use Rattle.std.specs.Prelude.{◌≡◌, ℕ, ◌<◌, ◌^◌, ◌↔◌, List, length, All, IsSome, IfSome}
 use Rattle.std.specs.List.Sorted.{IsStrictlyIncreasing}
-use Rattle.tn_base.specs.declared.fault.FaultKind.TheVariants.{ExchangeFails}
-use Rattle.tn_plain_data.specs.declared.place.PlaceStep.{PlaceStep}
-use Rattle.tn_plain_data.specs.declared.place.PlaceStep.TheVariants.{Key, Index, Trade}
-use Rattle.tn_plain_data.specs.declared.said.Fault.{Fault}
-use Rattle.tn_plain_data.specs.declared.said.Shown.{Shown}
+use Rattle.tn_said.specs.declared.fault.FaultKind.TheVariants.{ExchangeFails}
+use Rattle.tn_said.specs.declared.place.PlaceStep.{PlaceStep}
+use Rattle.tn_said.specs.declared.place.PlaceStep.TheVariants.{Key, Index, Trade}
+use Rattle.tn_said.specs.declared.said.Fault.{Fault}
+use Rattle.tn_said.specs.declared.said.Shown.{Shown}
 
 abbrev pub IsNamed : List (List ℕ) → ℕ → Type 0
 IsNamed names k = k < length names

@@ -7,15 +7,15 @@ use Rattle.std.proofs.Math.Nat.{mul-le-mul_right}
 use Rattle.std.proofs.lemmas.List.Elements.{All-head, All-tail, All-cons, All-nil}
 use Rattle.tn_base.specs.Arcs.{AreBetweenNodes, IsAtMost}
 use Rattle.tn_base.specs.Firm.{Firm}
-use Rattle.tn_plain_data.specs.declared.ends.Ends.{Ends}
-use Rattle.tn_plain_data.specs.Network.{IsNetwork}
+use Rattle.tn_model.specs.declared.ends.Ends.{Ends}
+use Rattle.tn_model.specs.Network.{IsNetwork}
 use Rattle.tn_market.specs.Graph.{exchange_arc}
 use Rattle.tn_market.specs.Valued.{IsWorthAtMost}
 use Rattle.tn_market.specs.Supported.{IsNegativeCycle, said_node}
 use Rattle.tn_market.proofs.GraphLemmas.{arc_within}
 use Rattle.tn_cycle.proofs.WalkLemmas.{AreApart, apart_from_different, few_apart, walk_inside, walk_small}
-use Rattle.tn_network.proofs.RoundLemmas.{cycle_avoids}
-use Rattle.tn_network.proofs.SupportLemmas.{arcs_small}
+use Rattle.tn_network_laws.proofs.RoundLemmas.{cycle_avoids}
+use Rattle.tn_network_laws.proofs.SupportLemmas.{arcs_small}
 
 -- the arcs lead from trade or null to trade or null
 pub arcs_between : (firms : List Firm) (trades : List Ends) (on : ℕ)

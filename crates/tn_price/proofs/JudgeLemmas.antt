@@ -15,10 +15,10 @@ use Rattle.tn_base.specs.Arcs.{IsAtMost}
 use Rattle.tn_base.specs.Firm.{Firm, payments, utility, IsBest}
 use Rattle.tn_base.proofs.SetLemmas.{set_of_within}
 use Rattle.tn_base.proofs.SumLemmas.{sum_over-same_terms}
-use Rattle.tn_plain_data.specs.declared.ends.Ends.{Ends}
-use Rattle.tn_plain_data.specs.Prices.{price_at}
-use Rattle.tn_plain_data.specs.Limits.{most_number}
-use Rattle.tn_plain_data.specs.Network.{own, part}
+use Rattle.tn_model.specs.declared.ends.Ends.{Ends}
+use Rattle.tn_model.specs.Prices.{price_at}
+use Rattle.tn_model.specs.Limits.{most_number}
+use Rattle.tn_model.specs.Network.{own, part}
 use Rattle.tn_market.specs.Equilibrium.{prices_at, utility_at, HasBest, IsEquilibrium, surplus_from, surplus_of}
 use Rattle.tn_market.specs.Judged.{AreBestBefore, IsFirstImpossible, IsFirstBettered}
 use Rattle.tn_market.specs.Widths.{most_market_firms, most_own, most_utility, most_worth}

@@ -6,22 +6,22 @@ use Rattle.std.proofs.lemmas.List.{get_or_default}
 use Rattle.tn_base.specs.Arcs.{IsAtMost}
 use Rattle.tn_base.specs.Firm.{Firm}
 use Rattle.tn_base.proofs.WalkLemmas.{walk-same}
-use Rattle.tn_plain_data.specs.declared.ends.Ends.{Ends}
-use Rattle.tn_plain_data.specs.Network.{part, IsNetwork}
-use Rattle.tn_plain_data.specs.Prices.{price_at}
+use Rattle.tn_model.specs.declared.ends.Ends.{Ends}
+use Rattle.tn_model.specs.Network.{part, IsNetwork}
+use Rattle.tn_model.specs.Prices.{price_at}
 use Rattle.tn_market.specs.Graph.{exchange_arc, ArePossible, graph_worths}
 use Rattle.tn_market.specs.Valued.{IsWorthAtMost}
 use Rattle.tn_market.specs.Supported.{AreSupports, IsFirstUnable, IsNegativeCycle, said_node}
-use Rattle.tn_graph.specs.Blocks.{Blocks, arcs_of}
+use Rattle.tn_graph.specs.Blocks.{CostBlocks, arcs_of}
 use Rattle.tn_graph.specs.BlockLemmas.{arcs_of-small}
 use Rattle.tn_graph.specs.Reading.{IsExchangeGraph}
 use Rattle.tn_cycle.specs.Answers.{AreLabels, BeginsWell, IsNegative, label_in}
 use Rattle.tn_cycle.specs.Widths.{most_graph_nodes, most_read}
 use Rattle.tn_cycle.proofs.DifferenceLemmas.{labels-same, label_small, difference_within}
-use Rattle.tn_network.specs.Laws.{MeetExchange}
+use Rattle.tn_network_laws.specs.Laws.{MeetExchange}
 use Rattle.tn_market.specs.Limits.{AreWorthsWithin}
-use Rattle.tn_network.proofs.EachLemmas.{same_prices}
-use Rattle.tn_network.proofs.SupportLemmas.{labels_are_supports, negative_cycles, arcs_small}
+use Rattle.tn_network_laws.proofs.EachLemmas.{same_prices}
+use Rattle.tn_network_laws.proofs.SupportLemmas.{labels_are_supports, negative_cycles, arcs_small}
 use Rattle.tn_price.specs.Supports.{IsUnsupported}
 
 -- ---- impossible bundles
@@ -73,14 +73,14 @@ unable_unsupported firms trades on f unable prices equilibrium =
 
 -- ---- labels
 
-pub exchange_labels : (firms : List Firm) (trades : List Ends) (on nodes : ℕ) (graph : Blocks) (labels : List ℤ)
+pub exchange_labels : (firms : List Firm) (trades : List Ends) (on nodes : ℕ) (graph : CostBlocks) (labels : List ℤ)
     → IsExchangeGraph firms trades on graph → nodes ≡ length trades + 1
     → AreLabels nodes (arcs_of graph) labels → AreLabels (length trades + 1) (exchange_arc firms trades on) labels
 exchange_labels firms trades on nodes graph labels is sized are =
     labels-same (length trades + 1) (exchange_arc firms trades on) (arcs_of graph) labels (λ u v. sym (is.arcs u v))
     (subst (λ (n : ℕ). AreLabels n (arcs_of graph) labels) sized are)
 
-pub exchange_small : (nodes : ℕ) (graph : Blocks) (labels : List ℤ) → nodes ≤ most_graph_nodes
+pub exchange_small : (nodes : ℕ) (graph : CostBlocks) (labels : List ℤ) → nodes ≤ most_graph_nodes
     → AreLabels nodes (arcs_of graph) labels → (v : ℕ) → v < length labels → IsAtMost (label_in labels v) most_read
 exchange_small nodes graph labels few are = label_small nodes (arcs_of graph) labels are (arcs_of-small graph) few
 
@@ -131,7 +131,7 @@ begins_well nodes n first listed rest sized is (inr all) =
     within : (v : ℕ) → first ≤ v → v + 1 < nodes → (first ≤ v) × (v < n)
     within v from below = (from, omega (arith, sized, below))
 
-pub exchange_cycle : (firms : List Firm) (trades : List Ends) (on nodes count null : ℕ) (graph : Blocks)
+pub exchange_cycle : (firms : List Firm) (trades : List Ends) (on nodes count null : ℕ) (graph : CostBlocks)
     (listed : List ℕ) (said : List (Option ℕ)) (cost : ℤ) → IsExchangeGraph firms trades on graph
     → nodes ≡ length trades + 1 → null ≡ length trades → ArePossible firms trades on
     → IsNegative nodes (arcs_of graph) listed cost count → said ≡ map (said_node null) listed

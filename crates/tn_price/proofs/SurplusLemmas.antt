@@ -9,9 +9,9 @@ use mir.Syntax.{w128}
 use mir.Val.{SFits}
 use Rattle.tn_base.specs.Arcs.{IsAtMost}
 use Rattle.tn_base.specs.Firm.{Firm}
-use Rattle.tn_law.proofs.KeepLemmas.{option_map-some}
-use Rattle.tn_plain_data.specs.declared.ends.Ends.{Ends}
-use Rattle.tn_plain_data.specs.Network.{part}
+use Rattle.tn_firm_laws.proofs.KeepLemmas.{option_map-some}
+use Rattle.tn_model.specs.declared.ends.Ends.{Ends}
+use Rattle.tn_model.specs.Network.{part}
 use Rattle.tn_market.specs.Equilibrium.{surplus_from, surplus_of}
 use Rattle.tn_market.specs.Widths.{most_limit, most_market_firms}
 

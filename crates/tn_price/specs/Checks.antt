@@ -1,7 +1,7 @@
 -- What the judgement of an arrangement says.
 use Rattle.std.specs.Prelude.{◌≡◌, ℕ, ℤ, List, Some}
 use Rattle.tn_base.specs.Firm.{Firm}
-use Rattle.tn_plain_data.specs.declared.ends.Ends.{Ends}
+use Rattle.tn_model.specs.declared.ends.Ends.{Ends}
 use Rattle.tn_market.specs.Equilibrium.{IsEquilibrium, surplus_of}
 use Rattle.tn_market.specs.Judged.{IsFirstImpossible, IsFirstBettered}
 use Rattle.tn_price.specs.declared.check.Check.{Check}

@@ -2,10 +2,10 @@
 use Rattle.std.specs.Prelude.{◌≡◌, ℕ, ◌<◌, ℤ, pos, ◌-ℤ◌, ◌<ℤ◌, List, length, slice_get, All, Option, Some, None}
 use Rattle.tn_base.specs.Arcs.{IsAtMost}
 use Rattle.tn_base.specs.Firm.{Firm, IsBest}
-use Rattle.tn_plain_data.specs.declared.ends.Ends.{Ends}
-use Rattle.tn_plain_data.specs.Prices.{price_at}
-use Rattle.tn_plain_data.specs.Limits.{most_number}
-use Rattle.tn_plain_data.specs.Network.{part}
+use Rattle.tn_model.specs.declared.ends.Ends.{Ends}
+use Rattle.tn_model.specs.Prices.{price_at}
+use Rattle.tn_model.specs.Limits.{most_number}
+use Rattle.tn_model.specs.Network.{part}
 use Rattle.tn_market.specs.Equilibrium.{prices_at, utility_at}
 use Rattle.tn_market.specs.Widths.{most_own, most_worth}
 use Rattle.tn_price.specs.declared.firm_verdict.FirmVerdict.{FirmVerdict}

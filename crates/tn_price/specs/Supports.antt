@@ -2,7 +2,7 @@
 use Rattle.std.specs.Prelude.{ℕ, ℤ, pos, List, All, Option, Some, None}
 use Rattle.tn_base.specs.Arcs.{IsAtMost}
 use Rattle.tn_base.specs.Firm.{Firm}
-use Rattle.tn_plain_data.specs.declared.ends.Ends.{Ends}
+use Rattle.tn_model.specs.declared.ends.Ends.{Ends}
 use Rattle.tn_market.specs.Equilibrium.{IsEquilibrium}
 use Rattle.tn_market.specs.Graph.{ArePossible}
 use Rattle.tn_market.specs.Supported.{AreSupports, IsFirstUnable, IsNegativeCycle}

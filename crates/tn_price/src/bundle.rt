@@ -1,7 +1,7 @@
 //! The trades of a firm's bundle.
 
 ghost use Rattle.std.specs.Prelude.{◌≡◌, ◌<◌, IfOk, Some, length, slice_get};
-ghost use Rattle.tn_plain_data.specs.Network.{trades_of};
+ghost use Rattle.tn_model.specs.Network.{trades_of};
 
 use std::alloc::Global;
 use tn_base::{Bundle, OutOfMemory};

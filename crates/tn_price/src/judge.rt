@@ -2,8 +2,8 @@
 
 ghost use Rattle.std.specs.Prelude.{◌≡◌, ℕ, ◌*◌, ◌<◌, ◌≤◌, Some, pos, ◌≤ℤ◌, length, slice_get, All};
 ghost use Rattle.tn_base.specs.Arcs.{IsAtMost};
-ghost use Rattle.tn_plain_data.specs.Prices.{price_at};
-ghost use Rattle.tn_plain_data.specs.Limits.{most_claimed_over, most_number};
+ghost use Rattle.tn_model.specs.Prices.{price_at};
+ghost use Rattle.tn_model.specs.Limits.{most_claimed_over, most_number};
 ghost use Rattle.tn_market.specs.Widths.{most_own, most_worth};
 ghost use Rattle.tn_price.specs.Checks.{Checks};
 ghost use Rattle.tn_price.specs.Standings.{AreOwnPrices, StandsAt};

@@ -6,11 +6,11 @@ ghost use Rattle.tn_base.specs.Firm.{Firm};
 ghost use Rattle.tn_base.specs.Widths.{most_cost};
 ghost use Rattle.tn_cycle.specs.Answers.{label_in};
 ghost use Rattle.tn_cycle.specs.Widths.{most_read};
-ghost use Rattle.tn_plain_data.specs.Prices.{price_at};
+ghost use Rattle.tn_model.specs.Prices.{price_at};
 ghost use Rattle.tn_market.specs.Limits.{AreWorthsWithin};
 ghost use Rattle.tn_market.specs.Graph.{graph_worths, ArePossible};
 ghost use Rattle.tn_market.specs.Widths.{most_market_trades};
-ghost use Rattle.tn_plain_data.specs.Network.{part};
+ghost use Rattle.tn_model.specs.Network.{part};
 ghost use Rattle.tn_price.specs.Supports.{Supports, FindsUnable, IsPricedWithin};
 ghost use Rattle.tn_market.specs.NetworkOf.{network_of};
 

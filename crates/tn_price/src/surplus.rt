@@ -5,7 +5,7 @@ ghost use Rattle.tn_base.specs.Arcs.{IsAtMost};
 ghost use Rattle.tn_base.specs.Firm.{Firm};
 ghost use Rattle.tn_market.specs.Equilibrium.{surplus_of};
 ghost use Rattle.tn_market.specs.Widths.{most_limit};
-ghost use Rattle.tn_plain_data.specs.Network.{part};
+ghost use Rattle.tn_model.specs.Network.{part};
 ghost use Rattle.tn_market.specs.NetworkOf.{network_of};
 
 use tn_base::{Steps, TradeSet};

@@ -10,8 +10,8 @@ use Rattle.tn_base.proofs.WalkLemmas.{SameArcs, walk-same}
 use Rattle.tn_cycle.specs.Answers.{LeadsLeast}
 use Rattle.tn_cycle.specs.Widths.{most_graph_nodes, most_read}
 use Rattle.tn_cycle.proofs.WalkLemmas.{AreApart, apart_from_different, few_apart, walk_inside, walk_small}
-use Rattle.tn_network.specs.Bounds.{IsDistance}
-use Rattle.tn_network.proofs.PoolLemmas.{append_cases}
+use Rattle.tn_network_laws.specs.Bounds.{IsDistance}
+use Rattle.tn_network_laws.proofs.PoolLemmas.{append_cases}
 
 -- the cost of a least walk is the distance
 pub leads-distance : (arc : ℕ → ℕ → Option ℤ) (u w : ℕ) (listed : List ℕ) (o : Option ℤ) → LeadsLeast arc u w listed o

@@ -8,26 +8,26 @@ use Rattle.std.proofs.lemmas.Option.{none-some, same_Some, slice_get_within}
 use Rattle.tn_base.specs.Arcs.{IsAtMost}
 use Rattle.tn_base.specs.Firm.{Firm}
 use Rattle.tn_base.specs.Walks.{KeepsArcs}
-use Rattle.tn_plain_data.specs.declared.ends.Ends.{Ends}
-use Rattle.tn_plain_data.specs.declared.range.Range.{Range}
-use Rattle.tn_plain_data.specs.Network.{IsNetwork}
-use Rattle.tn_plain_data.specs.Prices.{price_at}
+use Rattle.tn_model.specs.declared.ends.Ends.{Ends}
+use Rattle.tn_model.specs.declared.range.Range.{Range}
+use Rattle.tn_model.specs.Network.{IsNetwork}
+use Rattle.tn_model.specs.Prices.{price_at}
 use Rattle.tn_market.specs.Equilibrium.{IsEquilibrium}
 use Rattle.tn_market.specs.Graph.{exchange_arc}
 use Rattle.tn_market.specs.Ranges.{IsPath, ShowsHighest, ShowsLowest, IsRange, AreRanges}
 use Rattle.tn_market.specs.Widths.{most_market_trades}
-use Rattle.tn_graph.specs.Blocks.{Blocks, arcs_of}
+use Rattle.tn_graph.specs.Blocks.{CostBlocks, arcs_of}
 use Rattle.tn_graph.specs.BlockLemmas.{arcs_of-between, arcs_of-small}
 use Rattle.tn_graph.specs.Reading.{IsExchangeGraph}
 use Rattle.tn_cycle.specs.Reading.{Reading}
 use Rattle.tn_cycle.specs.Answers.{AreNear, IsLeastPath, LeadsLeast, distance_in, label_in, walk_in}
 use Rattle.tn_cycle.specs.Widths.{most_read}
 use Rattle.tn_cycle.proofs.WalkLemmas.{avoids-cons}
-use Rattle.tn_network.specs.Laws.{MeetExchange, price_of_node}
-use Rattle.tn_network.specs.Bounds.{IsDistance}
-use Rattle.tn_network.proofs.BoundLemmas.{price_bounds_are_distances}
-use Rattle.tn_network.proofs.PoolLemmas.{append_front, append_behind}
-use Rattle.tn_network.proofs.SupportLemmas.{arcs_from_supports}
+use Rattle.tn_network_laws.specs.Laws.{MeetExchange, price_of_node}
+use Rattle.tn_network_laws.specs.Bounds.{IsDistance}
+use Rattle.tn_network_laws.proofs.BoundLemmas.{price_bounds_are_distances}
+use Rattle.tn_network_laws.proofs.PoolLemmas.{append_front, append_behind}
+use Rattle.tn_network_laws.proofs.SupportLemmas.{arcs_from_supports}
 use Rattle.tn_range.specs.Shown.{KeepsWalks, range_by, said_walk, AreRangesBy}
 use Rattle.tn_range.proofs.PathLemmas.{leads-distance, leads-same, least-small, different-push}
 
@@ -50,7 +50,7 @@ pub record AreFound (firms : List Firm) (trades : List Ends) (on : ℕ) (from_nu
   pub to_walks : (t : ℕ) → t < length trades
       → LeadsLeast (exchange_arc firms trades on) t (length trades) (walk_in to_null t) (distance_in to_null t)
 
-pub found : (firms : List Firm) (trades : List Ends) (on from_nodes to_nodes null : ℕ) (graph : Blocks)
+pub found : (firms : List Firm) (trades : List Ends) (on from_nodes to_nodes null : ℕ) (graph : CostBlocks)
     (from_null to_null : Reading) → IsExchangeGraph firms trades on graph → from_nodes ≡ length trades + 1
     → to_nodes ≡ length trades + 1 → null ≡ length trades
     → ((v : ℕ) → v < from_nodes → LeadsLeast (arcs_of graph) null v (walk_in from_null v) (distance_in from_null v))
@@ -85,7 +85,7 @@ next_price t prices before price inside had is v = elim (cases_eq v t) [
 ]
 
 -- prices that support the set keep the arcs of the graph, with 0 for the null node
-pub prices_keep : (firms : List Firm) (trades : List Ends) (on count : ℕ) (prices labels : List ℤ) (graph : Blocks)
+pub prices_keep : (firms : List Firm) (trades : List Ends) (on count : ℕ) (prices labels : List ℤ) (graph : CostBlocks)
     → IsNetwork firms trades → IsEquilibrium firms trades (pos 1) on (price_at prices)
     → IsExchangeGraph firms trades on graph → count ≡ length trades
     → ((v : ℕ) → label_in labels v ≡ price_of_node count (price_at prices) v)
@@ -113,7 +113,7 @@ prices_near count reach prices labels counted small are v inside =
     ])
 
 -- the costs of least walks to null are small
-pub costs_small : (graph : Blocks) (nodes null trades : ℕ) (to_null : Reading) → graph.nodes ≡ trades + 1
+pub costs_small : (graph : CostBlocks) (nodes null trades : ℕ) (to_null : Reading) → graph.nodes ≡ trades + 1
     → nodes ≡ trades + 1 → trades ≤ most_market_trades
     → ((v : ℕ) → v < nodes → LeadsLeast (arcs_of graph) v null (walk_in to_null v) (distance_in to_null v)) → (t : ℕ)
     → t < trades → IfSome (distance_in to_null t) (λ cost. IsAtMost cost most_read)

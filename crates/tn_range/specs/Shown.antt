@@ -2,7 +2,7 @@
 use Rattle.std.specs.Prelude.{◌≡◌, ℕ, ◌<◌, ℤ, neg_ℤ, List, [], length, map, slice_get, Option, Some, None, option_map}
 use Rattle.tn_cycle.specs.Reading.{Reading}
 use Rattle.tn_cycle.specs.Answers.{distance_in, walk_in}
-use Rattle.tn_plain_data.specs.declared.range.Range.{Range}
+use Rattle.tn_model.specs.declared.range.Range.{Range}
 use Rattle.tn_market.specs.Supported.{said_node}
 
 -- the finder lets the same walks be read

@@ -9,8 +9,8 @@ ghost use Rattle.tn_cycle.specs.Widths.{most_label, most_read};
 ghost use Rattle.tn_market.specs.Graph.{graph_worths};
 ghost use Rattle.tn_market.specs.Ranges.{AreRanges};
 ghost use Rattle.tn_market.specs.Supported.{AreSupports};
-ghost use Rattle.tn_network.specs.Laws.{price_of_node};
-ghost use Rattle.tn_plain_data.specs.Prices.{price_at};
+ghost use Rattle.tn_network_laws.specs.Laws.{price_of_node};
+ghost use Rattle.tn_model.specs.Prices.{price_at};
 ghost use Rattle.tn_range.specs.Shown.{AreRangesBy};
 ghost use Rattle.tn_market.specs.NetworkOf.{network_of};
 

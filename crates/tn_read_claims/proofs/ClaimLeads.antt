@@ -3,23 +3,23 @@ use Rattle.std.proofs.Common.{◌≡◌, ℕ, ◌^◌, ◌<◌, List, length, ge
 use Rattle.std.specs.Prelude.{codes, nat_le, All, IfSome}
 use Rattle.serde_json.specs.Data.{Data}
 use Rattle.serde_json.specs.Find.{get}
-use Rattle.tn_base.specs.declared.fault.FaultKind.TheVariants.{Limit, Shape}
+use Rattle.tn_said.specs.declared.fault.FaultKind.TheVariants.{Limit, Shape}
 use Rattle.tn_base.specs.Firm.{Firm}
-use Rattle.tn_plain_data.specs.declared.claim.Claim.{Claim}
-use Rattle.tn_plain_data.specs.declared.part.Part.{Part}
-use Rattle.tn_plain_data.specs.declared.claim.Claim.TheVariants.{Equilibrium, Better, Impossible, Accepted, ExchangeFails, Supported, Cycle, Solved, Drops, Completes, Blocks, NoPrices}
-use Rattle.tn_plain_data.specs.declared.place.Word.{Word as WordIs}
-use Rattle.tn_plain_data.specs.declared.place.Word.TheVariants.{At, Bundle, Cost, Firm as FirmWord, Gain, Keeps, Surplus, X, Y}
-use Rattle.tn_plain_data.specs.Limits.{most_number, most_planned_trades}
-use Rattle.tn_plain_data.specs.ClaimLimits.{ArePricesWithin, IsClaimWithin, IsFirmWith, IsNumberWithin, IsOverWithin, IsPartWithin}
-use Rattle.tn_plain_data.specs.OutcomeLimits.{IsOutcomeWithin}
-use Rattle.tn_plain_data.specs.Network.{IsNetwork}
-use Rattle.tn_plain_data.proofs.InOrderNetworks.{there}
-use Rattle.tn_shape.specs.declared.claims.ClaimKind.{ClaimKind}
-use Rattle.tn_shape.specs.declared.claims.ClaimKind.TheVariants.{Equilibrium as EquilibriumKind, Better as BetterKind, Impossible as ImpossibleKind, Accepted as AcceptedKind, ExchangeFails as ExchangeFailsKind, Supported as SupportedKind, Cycle as CycleKind, Solved as SolvedKind, Drops as DropsKind, Completes as CompletesKind, Blocks as BlocksKind, NoPrices as NoPricesKind}
-use Rattle.tn_shape.specs.Reading.{holds, wanted}
-use Rattle.tn_shape.specs.Shapes.{object_at}
-use Rattle.tn_shape.proofs.LeadLemmas.{Leads, le_from_test, leads_after, leads_bind, leads_holds, leads_ok}
+use Rattle.tn_said.specs.declared.claim.Claim.{Claim}
+use Rattle.tn_said.specs.declared.part.Part.{Part}
+use Rattle.tn_said.specs.declared.claim.Claim.TheVariants.{Equilibrium, Better, Impossible, Accepted, ExchangeFails, Supported, Cycle, Solved, Drops, Completes, Blocks, NoPrices}
+use Rattle.tn_said.specs.declared.place.Word.{Word as WordIs}
+use Rattle.tn_said.specs.declared.place.Word.TheVariants.{At, Bundle, Cost, Firm as FirmWord, Gain, Keeps, Surplus, X, Y}
+use Rattle.tn_model.specs.Limits.{most_number, most_planned_trades}
+use Rattle.tn_said.specs.ClaimLimits.{ArePricesWithin, IsClaimWithin, IsFirmWith, IsNumberWithin, IsOverWithin, IsPartWithin}
+use Rattle.tn_model.specs.OutcomeLimits.{IsOutcomeWithin}
+use Rattle.tn_model.specs.Network.{IsNetwork}
+use Rattle.tn_model.proofs.InOrderNetworks.{there}
+use Rattle.tn_read_shapes.specs.declared.claims.ClaimKind.{ClaimKind}
+use Rattle.tn_read_shapes.specs.declared.claims.ClaimKind.TheVariants.{Equilibrium as EquilibriumKind, Better as BetterKind, Impossible as ImpossibleKind, Accepted as AcceptedKind, ExchangeFails as ExchangeFailsKind, Supported as SupportedKind, Cycle as CycleKind, Solved as SolvedKind, Drops as DropsKind, Completes as CompletesKind, Blocks as BlocksKind, NoPrices as NoPricesKind}
+use Rattle.tn_read_shapes.specs.Reading.{holds, wanted}
+use Rattle.tn_read_shapes.specs.Shapes.{object_at}
+use Rattle.tn_read_shapes.proofs.LeadLemmas.{Leads, le_from_test, leads_after, leads_bind, leads_holds, leads_ok}
 use Rattle.tn_read_references.specs.Ordered.{AreInOrder, AreTrades, Listed, sides_of}
 use Rattle.tn_read_references.proofs.ReferenceLeads.{bundle_leads, firm_at_leads}
 use Rattle.tn_read_parts.specs.Arranged.{arrangement_of, trades_on_of, IsArrangement}

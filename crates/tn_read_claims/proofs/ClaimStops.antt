@@ -3,20 +3,20 @@ use Rattle.std.proofs.Common.{ℕ, ◌<◌, ◌≤◌, length, Some, refl}
 use Rattle.std.specs.Prelude.{codes, nat_le}
 use Rattle.serde_json.specs.Data.{Data}
 use Rattle.serde_json.specs.Find.{get}
-use Rattle.tn_base.specs.declared.fault.FaultKind.TheVariants.{Limit, Shape}
-use Rattle.tn_plain_data.specs.Limits.{most_own_trades, most_planned_trades}
-use Rattle.tn_plain_data.specs.declared.claim.Claim.TheVariants.{Equilibrium, Better, Impossible, Accepted, ExchangeFails, Supported, Cycle, Solved, Drops, Completes, Blocks, NoPrices}
-use Rattle.tn_plain_data.specs.declared.place.Word.TheVariants.{Answer, At, Bundle, Cost, Firm as FirmWord, Gain, Keeps, Over, Surplus, X, Y}
-use Rattle.tn_plain_data.specs.declared.said.Fault.{Fault}
-use Rattle.tn_shape.specs.declared.claims.ClaimKind.{ClaimKind}
-use Rattle.tn_shape.specs.declared.claims.ClaimKind.TheVariants.{Equilibrium as EquilibriumKind, Better as BetterKind, Impossible as ImpossibleKind, Accepted as AcceptedKind, ExchangeFails as ExchangeFailsKind, Supported as SupportedKind, Cycle as CycleKind, Solved as SolvedKind, Drops as DropsKind, Completes as CompletesKind, Blocks as BlocksKind, NoPrices as NoPricesKind}
-use Rattle.tn_shape.specs.declared.members.ObjectKind.TheVariants.{Claim as ClaimObject}
-use Rattle.tn_shape.specs.Claims.{claim_named}
-use Rattle.tn_shape.specs.Reading.{holds, wanted}
-use Rattle.tn_shape.specs.Shapes.{object_at, text_at}
-use Rattle.tn_shape.proofs.LeadLemmas.{Leads}
-use Rattle.tn_shape.proofs.ShapeStops.{number_stops, object_at_stops, object_stops, text_stops}
-use Rattle.tn_shape.proofs.StopLemmas.{IsPlain, Stops, StopsPlainly, plain_holds, plain_wanted, stops_after, stops_bind, stops_ok}
+use Rattle.tn_said.specs.declared.fault.FaultKind.TheVariants.{Limit, Shape}
+use Rattle.tn_model.specs.Limits.{most_own_trades, most_planned_trades}
+use Rattle.tn_said.specs.declared.claim.Claim.TheVariants.{Equilibrium, Better, Impossible, Accepted, ExchangeFails, Supported, Cycle, Solved, Drops, Completes, Blocks, NoPrices}
+use Rattle.tn_said.specs.declared.place.Word.TheVariants.{Answer, At, Bundle, Cost, Firm as FirmWord, Gain, Keeps, Over, Surplus, X, Y}
+use Rattle.tn_said.specs.declared.said.Fault.{Fault}
+use Rattle.tn_read_shapes.specs.declared.claims.ClaimKind.{ClaimKind}
+use Rattle.tn_read_shapes.specs.declared.claims.ClaimKind.TheVariants.{Equilibrium as EquilibriumKind, Better as BetterKind, Impossible as ImpossibleKind, Accepted as AcceptedKind, ExchangeFails as ExchangeFailsKind, Supported as SupportedKind, Cycle as CycleKind, Solved as SolvedKind, Drops as DropsKind, Completes as CompletesKind, Blocks as BlocksKind, NoPrices as NoPricesKind}
+use Rattle.tn_read_shapes.specs.declared.members.ObjectKind.TheVariants.{Claim as ClaimObject}
+use Rattle.tn_read_shapes.specs.Claims.{claim_named}
+use Rattle.tn_read_shapes.specs.Reading.{holds, wanted}
+use Rattle.tn_read_shapes.specs.Shapes.{object_at, text_at}
+use Rattle.tn_read_shapes.proofs.LeadLemmas.{Leads}
+use Rattle.tn_read_shapes.proofs.ShapeStops.{number_stops, object_at_stops, object_stops, text_stops}
+use Rattle.tn_read_shapes.proofs.StopLemmas.{IsPlain, Stops, StopsPlainly, plain_holds, plain_wanted, stops_after, stops_bind, stops_ok}
 use Rattle.tn_read_references.specs.Ordered.{AreTrades, Listed, sides_of}
 use Rattle.tn_read_references.proofs.ReferenceLeads.{firm_at_leads}
 use Rattle.tn_read_references.proofs.ReferenceStops.{bundle_stops, firm_at_stops}

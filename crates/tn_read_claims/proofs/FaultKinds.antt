@@ -6,27 +6,27 @@ use Rattle.serde_json.specs.Events.{items_len}
 use Rattle.serde_json.specs.Find.{get, as_array, as_i64, as_number, as_object, as_str}
 use Rattle.tn_base.specs.Sets.{has, size, toggle}
 use Rattle.tn_base.specs.declared.side.Side.{Side}
-use Rattle.tn_base.specs.declared.fault.FaultKind.{FaultKind}
-use Rattle.tn_base.specs.declared.fault.FaultKind.TheVariants.{Shape, UnknownFirm, UnknownTrade, Limit, AmountRange, NotOwnTrade, SameTrade, PriceMissing, BadOver}
-use Rattle.tn_plain_data.specs.Limits.{least_nodes, most_parts, most_planned_trades}
-use Rattle.tn_plain_data.specs.Prices.{price_at}
-use Rattle.tn_plain_data.specs.Choices.{contracts_of}
-use Rattle.tn_plain_data.specs.declared.claim.Claim.TheVariants.{Equilibrium, Better, Impossible, Accepted, ExchangeFails, Supported, Cycle, Solved, Drops, Completes, Blocks, NoPrices}
-use Rattle.tn_plain_data.specs.declared.part.Part.{Part}
-use Rattle.tn_plain_data.specs.declared.place.PlaceStep.{PlaceStep}
-use Rattle.tn_plain_data.specs.declared.place.PlaceStep.TheVariants.{Index, Trade, Key}
-use Rattle.tn_plain_data.specs.declared.place.Word.TheVariants.{Answer, Arrangement, At, Bundle, Contracts, Cost, Firm as FirmWord, Gain, Keeps, Nodes, On, Over, Prices, Surplus, X, Y}
-use Rattle.tn_plain_data.specs.declared.said.Fault.{Fault}
+use Rattle.tn_said.specs.declared.fault.FaultKind.{FaultKind}
+use Rattle.tn_said.specs.declared.fault.FaultKind.TheVariants.{Shape, UnknownFirm, UnknownTrade, Limit, AmountRange, NotOwnTrade, SameTrade, PriceMissing, BadOver}
+use Rattle.tn_model.specs.Limits.{least_nodes, most_parts, most_planned_trades}
+use Rattle.tn_model.specs.Prices.{price_at}
+use Rattle.tn_model.specs.Choices.{contracts_of}
+use Rattle.tn_said.specs.declared.claim.Claim.TheVariants.{Equilibrium, Better, Impossible, Accepted, ExchangeFails, Supported, Cycle, Solved, Drops, Completes, Blocks, NoPrices}
+use Rattle.tn_said.specs.declared.part.Part.{Part}
+use Rattle.tn_said.specs.declared.place.PlaceStep.{PlaceStep}
+use Rattle.tn_said.specs.declared.place.PlaceStep.TheVariants.{Index, Trade, Key}
+use Rattle.tn_said.specs.declared.place.Word.TheVariants.{Answer, Arrangement, At, Bundle, Contracts, Cost, Firm as FirmWord, Gain, Keeps, Nodes, On, Over, Prices, Surplus, X, Y}
+use Rattle.tn_said.specs.declared.said.Fault.{Fault}
 use Rattle.tn_names.specs.Names.{number_of}
-use Rattle.tn_shape.specs.declared.claims.ClaimKind.{ClaimKind}
-use Rattle.tn_shape.specs.declared.claims.ClaimKind.TheVariants.{Equilibrium as EquilibriumKind, Better as BetterKind, Impossible as ImpossibleKind, Accepted as AcceptedKind, ExchangeFails as ExchangeFailsKind, Supported as SupportedKind, Cycle as CycleKind, Solved as SolvedKind, Drops as DropsKind, Completes as CompletesKind, Blocks as BlocksKind, NoPrices as NoPricesKind}
-use Rattle.tn_shape.specs.declared.members.ObjectKind.{ObjectKind}
-use Rattle.tn_shape.specs.declared.members.ObjectKind.TheVariants.{Arrangement as ArrangementObject, Outcome as OutcomeObject, Claim as ClaimObject}
-use Rattle.tn_shape.specs.Claims.{claim_named}
-use Rattle.tn_shape.specs.Members.{allows_all}
-use Rattle.tn_shape.specs.Reading.{◌>>=◌, each, fault, holds, wanted}
-use Rattle.tn_shape.specs.Shapes.{few_at, list_at, number_at, number_in, object_at, object_of, text_at, three_at, three_of, two_at, two_of, whole_at}
-use Rattle.tn_shape.proofs.StopLemmas.{Stops, stops_bind, stops_each, stops_err, stops_ok}
+use Rattle.tn_read_shapes.specs.declared.claims.ClaimKind.{ClaimKind}
+use Rattle.tn_read_shapes.specs.declared.claims.ClaimKind.TheVariants.{Equilibrium as EquilibriumKind, Better as BetterKind, Impossible as ImpossibleKind, Accepted as AcceptedKind, ExchangeFails as ExchangeFailsKind, Supported as SupportedKind, Cycle as CycleKind, Solved as SolvedKind, Drops as DropsKind, Completes as CompletesKind, Blocks as BlocksKind, NoPrices as NoPricesKind}
+use Rattle.tn_read_shapes.specs.declared.members.ObjectKind.{ObjectKind}
+use Rattle.tn_read_shapes.specs.declared.members.ObjectKind.TheVariants.{Arrangement as ArrangementObject, Outcome as OutcomeObject, Claim as ClaimObject}
+use Rattle.tn_read_shapes.specs.Claims.{claim_named}
+use Rattle.tn_read_shapes.specs.Members.{allows_all}
+use Rattle.tn_read_shapes.specs.Reading.{◌>>=◌, each, fault, holds, wanted}
+use Rattle.tn_read_shapes.specs.Shapes.{few_at, list_at, number_at, number_in, object_at, object_of, text_at, three_at, three_of, two_at, two_of, whole_at}
+use Rattle.tn_read_shapes.proofs.StopLemmas.{Stops, stops_bind, stops_each, stops_err, stops_ok}
 use Rattle.tn_read_references.specs.Ordered.{Listed}
 use Rattle.tn_read_references.specs.Entries.{Numbered, entry_of, one_entry}
 use Rattle.tn_read_references.specs.References.{bundle_at, firm_at, new_own, new_trade, own_position, own_reference, position_on, trade_at}
@@ -35,8 +35,8 @@ use Rattle.tn_read_parts.specs.Lists.{contracts_at, first_without, named_prices,
 use Rattle.tn_read_parts.specs.Signed.{contracts_place, outcome_of, outcome_place, over_at, over_place}
 use Rattle.tn_read_claims.specs.Claimed.{accepted_of, better_of, blocks_of, claim_by, claim_of, completes_of, cycle_of, drops_of, equilibrium_of, failure_of, frame_of, impossible_of, kind_of, no_prices_of, solved_of, supported_of}
 use Rattle.tn_read_claims.specs.Laws.{FaultsOfClaims, is_claim_fault}
-use Rattle.tn_read_claims.specs.Members.{Offered, claim_place, claimed_bundle, claimed_contracts, claimed_firm, claimed_nodes, claimed_number, claimed_on, claimed_over, claimed_prices, gain_or_null, member_place, no_offers, node_at, one_node, one_offer, own_or_null, unless_null}
-use Rattle.tn_read_claims.specs.Planned.{claimed_plan, in_part, one_part, part_at, part_of, plan_place, weight_at}
+use Rattle.tn_read_claims.specs.Members.{Offered, claim_place, claimed_bundle, claimed_contracts, claimed_firm, claimed_nodes, claimed_number, claimed_on, claimed_over, claimed_prices, gain_or_null, member_place, no_offers, node_or_null, one_node, one_offer, own_or_null, unless_null}
+use Rattle.tn_read_claims.specs.Planned.{claimed_plan, in_part, one_part, part_at, part_of, plan_place, plan_weight_at}
 
 abbrev Known : Fault → Type 0
 Known f = is_claim_fault f.kind ≡ true
@@ -323,7 +323,7 @@ one_node_kinds : (trades : List (List ℕ)) (nodes : List (Option ℕ)) (value :
     → Stops Known (one_node trades nodes value)
 unfolding one_node
 one_node_kinds trades nodes value =
-    stops_bind Known (node_at trades (member_place Nodes ++ Index (length nodes) ∷ []) value) _
+    stops_bind Known (node_or_null trades (member_place Nodes ++ Index (length nodes) ∷ []) value) _
     (null_kinds (trade_at trades (member_place Nodes ++ Index (length nodes) ∷ []))
     (trade_kinds trades (member_place Nodes ++ Index (length nodes) ∷ [])) value) (λ node.
     stops_ok Known (nodes ++ node ∷ []))
@@ -363,8 +363,8 @@ claimed_contracts_kinds listed claim =
     (one_offer_kinds trades (member_place Contracts) limit) no_offers entries) (λ offered.
     stops_ok Known (offered.contracts)))
 
-weight_kinds : (listed : Listed) (place : List PlaceStep) (value : Data) → Stops Known (weight_at listed place value)
-unfolding weight_at
+weight_kinds : (listed : Listed) (place : List PlaceStep) (value : Data) → Stops Known (plan_weight_at listed place value)
+unfolding plan_weight_at
 weight_kinds listed place value =
     stops_bind Known (whole_at place (Some value)) _ (whole_kinds place (Some value)) (λ weight.
     let test = int_le (pos 1) weight && int_le weight (pos listed.limits.claimed_over) in
@@ -379,7 +379,7 @@ part_kinds listed k entry =
     (firm_kinds listed.names.firms (in_part k 0) (Some three.0)) (λ f.
     stops_bind Known (bundle_at listed f (in_part k 1) (Some three.1)) _
     (bundle_kinds listed f (in_part k 1) (Some three.1)) (λ x.
-    stops_bind Known (weight_at listed (in_part k 2) three.2) _ (weight_kinds listed (in_part k 2) three.2) (λ weight.
+    stops_bind Known (plan_weight_at listed (in_part k 2) three.2) _ (weight_kinds listed (in_part k 2) three.2) (λ weight.
     stops_ok Known (record { firm = f; bundle = x; weight = weight })))))
 
 one_part_kinds : (listed : Listed) (parts : List Part) (entry : Data) → Stops Known (one_part listed parts entry)

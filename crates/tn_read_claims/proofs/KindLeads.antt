@@ -3,22 +3,22 @@ use Rattle.std.proofs.Common.{◌≡◌, ℕ, false, List, length, Some, refl, s
 use Rattle.std.specs.Prelude.{All, codes, nat_le, option_and_then, option_map, unwrap_or}
 use Rattle.serde_json.specs.Data.{Data}
 use Rattle.serde_json.specs.Find.{get, as_str}
-use Rattle.tn_base.specs.declared.fault.FaultKind.TheVariants.{Limit, Shape}
-use Rattle.tn_plain_data.specs.Limits.{most_planned_trades}
-use Rattle.tn_plain_data.specs.declared.claim.Claim.{Claim}
-use Rattle.tn_plain_data.specs.declared.limits.Limits.{Limits}
-use Rattle.tn_plain_data.specs.declared.claim.Claim.TheVariants.{Equilibrium, Better, Impossible, Accepted, ExchangeFails, Supported, Cycle, Solved, Drops, Completes, Blocks, NoPrices}
-use Rattle.tn_plain_data.specs.declared.place.Word.TheVariants.{Answer, At, Bundle, Cost, Gain, Keeps, Over, Surplus, X, Y}
-use Rattle.tn_shape.specs.declared.claims.ClaimKind.{ClaimKind}
-use Rattle.tn_shape.specs.declared.claims.ClaimKind.TheVariants.{Equilibrium as EquilibriumKind, Better as BetterKind, Impossible as ImpossibleKind, Accepted as AcceptedKind, ExchangeFails as ExchangeFailsKind, Supported as SupportedKind, Cycle as CycleKind, Solved as SolvedKind, Drops as DropsKind, Completes as CompletesKind, Blocks as BlocksKind, NoPrices as NoPricesKind}
-use Rattle.tn_shape.specs.Claims.{claim_named}
-use Rattle.tn_shape.specs.Reading.{holds, wanted}
-use Rattle.tn_shape.specs.Shapes.{object_at, text_at}
-use Rattle.tn_shape.proofs.LeadLemmas.{Leads, leads_after, leads_as, leads_bind, leads_ok, leads_wanted}
+use Rattle.tn_said.specs.declared.fault.FaultKind.TheVariants.{Limit, Shape}
+use Rattle.tn_model.specs.Limits.{most_planned_trades}
+use Rattle.tn_said.specs.declared.claim.Claim.{Claim}
+use Rattle.tn_model.specs.declared.limits.Limits.{Limits}
+use Rattle.tn_said.specs.declared.claim.Claim.TheVariants.{Equilibrium, Better, Impossible, Accepted, ExchangeFails, Supported, Cycle, Solved, Drops, Completes, Blocks, NoPrices}
+use Rattle.tn_said.specs.declared.place.Word.TheVariants.{Answer, At, Bundle, Cost, Gain, Keeps, Over, Surplus, X, Y}
+use Rattle.tn_read_shapes.specs.declared.claims.ClaimKind.{ClaimKind}
+use Rattle.tn_read_shapes.specs.declared.claims.ClaimKind.TheVariants.{Equilibrium as EquilibriumKind, Better as BetterKind, Impossible as ImpossibleKind, Accepted as AcceptedKind, ExchangeFails as ExchangeFailsKind, Supported as SupportedKind, Cycle as CycleKind, Solved as SolvedKind, Drops as DropsKind, Completes as CompletesKind, Blocks as BlocksKind, NoPrices as NoPricesKind}
+use Rattle.tn_read_shapes.specs.Claims.{claim_named}
+use Rattle.tn_read_shapes.specs.Reading.{holds, wanted}
+use Rattle.tn_read_shapes.specs.Shapes.{object_at, text_at}
+use Rattle.tn_read_shapes.proofs.LeadLemmas.{Leads, leads_after, leads_as, leads_bind, leads_ok, leads_wanted}
 use Rattle.tn_read_references.specs.Ordered.{Listed}
 use Rattle.tn_read_parts.specs.Arranged.{arrangement_of, trades_on_of}
 use Rattle.tn_read_parts.specs.Signed.{outcome_of}
-use Rattle.tn_read_claims.specs.Claimed.{accepted_of, better_of, blocks_of, claim_by, claim_of, claims_raw, completes_of, cycle_of, drops_of, equilibrium_of, failure_of, frame_of, impossible_of, is_raw, kind_is, kind_of, names_raw, no_prices_of, solved_of, supported_of}
+use Rattle.tn_read_claims.specs.Claimed.{accepted_of, better_of, blocks_of, claim_by, claim_of, claims_raw, completes_of, cycle_of, drops_of, equilibrium_of, failure_of, frame_of, impossible_of, is_raw_kind, kind_is, kind_of, names_raw, no_prices_of, solved_of, supported_of}
 use Rattle.tn_read_claims.specs.Laws.{ClaimsKeepLimits, KeepsClaimLimits, RawClaimsAreTold}
 use Rattle.tn_read_claims.specs.Members.{claim_place, claimed_bundle, claimed_contracts, claimed_firm, claimed_nodes, claimed_number, claimed_on, claimed_over, claimed_prices, gain_or_null, member_place, own_or_null}
 use Rattle.tn_read_claims.specs.Planned.{claimed_plan}
@@ -192,7 +192,7 @@ module _ (listed : Listed) (top claim : Data) where
 
 -- what is known of a claim before and after it is read
 record IsTold (listed : Listed) (top : Data) (claim : Claim) : Type 0 where
-  raw : claims_raw top ≡ is_raw (kind_is claim)
+  raw : claims_raw top ≡ is_raw_kind (kind_is claim)
   keeps : KeepsClaimLimits listed.limits claim
 
 -- the answer names the kind
@@ -217,12 +217,12 @@ kind_leads claim =
     (leads_wanted Shape (member_place Answer) (claim_named answer)))
 
 raw_named : (top claim : Data) (kind : ClaimKind) → get (codes "claim") top ≡ Some claim → IsNamedBy claim kind
-    → claims_raw top ≡ is_raw kind
+    → claims_raw top ≡ is_raw_kind kind
 raw_named top claim kind at by =
     ap (λ found. unwrap_or
     (option_map names_raw (option_and_then as_str (option_and_then (get (codes "answer")) found))) false) at
     ∙ ap (λ answer. unwrap_or (option_map names_raw answer) false) by.is
-    ∙ ap (λ named. unwrap_or (option_map is_raw named) false) by.named
+    ∙ ap (λ named. unwrap_or (option_map is_raw_kind named) false) by.named
 
 told_leads : (listed : Listed) (top : Data) → Leads (IsTold listed top) (claim_of listed top)
 unfolding claim_of
@@ -233,7 +233,7 @@ told_leads listed top =
     leads_after (IsTold listed top) (object_at claim_place (Some claim)) _ (λ object.
     leads_bind (IsNamedBy claim) (IsTold listed top) (kind_of claim) _ (kind_leads claim) (λ kind by.
     leads_as (IsOf kind listed.limits) (IsTold listed top) (claim_by listed kind top claim) (λ read is. record {
-      raw = raw_named top claim kind at by ∙ ap is_raw (sym is.is);
+      raw = raw_named top claim kind at by ∙ ap is_raw_kind (sym is.is);
       keeps = is.keeps;
     }) (claim_is listed top claim kind))))
 

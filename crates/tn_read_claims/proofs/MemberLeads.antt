@@ -11,20 +11,20 @@ use Rattle.serde_json.specs.Find.{get}
 use Rattle.tn_base.specs.Arcs.{IsAtMost}
 use Rattle.tn_base.specs.Sets.{has, size, toggle}
 use Rattle.tn_base.proofs.SetLemmas.{has-toggle_other, has-toggle_same}
-use Rattle.tn_base.specs.declared.fault.FaultKind.TheVariants.{Limit, Shape}
-use Rattle.tn_plain_data.specs.declared.contract.Contract.{Contract}
-use Rattle.tn_plain_data.specs.declared.place.PlaceStep.{PlaceStep}
-use Rattle.tn_plain_data.specs.declared.place.PlaceStep.TheVariants.{Index}
-use Rattle.tn_plain_data.specs.declared.place.Word.{Word as WordIs}
-use Rattle.tn_plain_data.specs.declared.place.Word.TheVariants.{Contracts, Gain, Nodes, On, Over, Prices}
-use Rattle.tn_plain_data.specs.declared.said.Fault.{Fault}
-use Rattle.tn_plain_data.specs.Limits.{AreLimits, least_nodes, most_number}
-use Rattle.tn_plain_data.specs.ClaimLimits.{ArePricesWithin, IsNumberWithin, IsOverWithin}
+use Rattle.tn_said.specs.declared.fault.FaultKind.TheVariants.{Limit, Shape}
+use Rattle.tn_model.specs.declared.contract.Contract.{Contract}
+use Rattle.tn_said.specs.declared.place.PlaceStep.{PlaceStep}
+use Rattle.tn_said.specs.declared.place.PlaceStep.TheVariants.{Index}
+use Rattle.tn_said.specs.declared.place.Word.{Word as WordIs}
+use Rattle.tn_said.specs.declared.place.Word.TheVariants.{Contracts, Gain, Nodes, On, Over, Prices}
+use Rattle.tn_said.specs.declared.said.Fault.{Fault}
+use Rattle.tn_model.specs.Limits.{AreLimits, least_nodes, most_number}
+use Rattle.tn_said.specs.ClaimLimits.{ArePricesWithin, IsNumberWithin, IsOverWithin}
 use Rattle.tn_names.proofs.NameLemmas.{push_cases}
-use Rattle.tn_shape.specs.Reading.{◌>>=◌, each, holds, wanted}
-use Rattle.tn_shape.specs.Shapes.{few_at, list_at, number_at, number_in, two_at}
-use Rattle.tn_shape.proofs.LeadLemmas.{Leads, le_from_test, leads_after, leads_as, leads_bind, leads_both, leads_count, leads_each, leads_holds, leads_ok}
-use Rattle.tn_shape.proofs.ShapeLeads.{few_lead, number_leads}
+use Rattle.tn_read_shapes.specs.Reading.{◌>>=◌, each, holds, wanted}
+use Rattle.tn_read_shapes.specs.Shapes.{few_at, list_at, number_at, number_in, two_at}
+use Rattle.tn_read_shapes.proofs.LeadLemmas.{Leads, le_from_test, leads_after, leads_as, leads_bind, leads_both, leads_count, leads_each, leads_holds, leads_ok}
+use Rattle.tn_read_shapes.proofs.ShapeLeads.{few_lead, number_leads}
 use Rattle.tn_read_references.specs.Ordered.{AreTrades, Listed, sides_of}
 use Rattle.tn_read_references.specs.References.{new_trade, own_position, trade_at}
 use Rattle.tn_read_references.specs.Entries.{entry_of}
@@ -35,7 +35,7 @@ use Rattle.tn_read_parts.specs.Signed.{over_at}
 use Rattle.tn_read_parts.proofs.EntryLemmas.{IsNewTrade, new_trade_says}
 use Rattle.tn_read_parts.proofs.ListLeads.{IsSetOf, prices_lead, set_leads}
 use Rattle.tn_read_parts.proofs.OutcomeLeads.{IsOver, over_leads}
-use Rattle.tn_read_claims.specs.Members.{Offered, claimed_contracts, claimed_nodes, claimed_number, claimed_on, claimed_over, claimed_prices, gain_or_null, member_place, no_offers, node_at, one_node, one_offer, own_or_null, unless_null}
+use Rattle.tn_read_claims.specs.Members.{Offered, claimed_contracts, claimed_nodes, claimed_number, claimed_on, claimed_over, claimed_prices, gain_or_null, member_place, no_offers, node_or_null, one_node, one_offer, own_or_null, unless_null}
 
 -- ---- null
 
@@ -108,7 +108,7 @@ module _ (trades : List (List ℕ)) where
   unfolding one_node
   one_node_leads nodes value known =
       let place = member_place Nodes ++ Index (length nodes) ∷ [] in
-      leads_bind IsKnown (All IsKnown) (node_at trades place value) _
+      leads_bind IsKnown (All IsKnown) (node_or_null trades place value) _
       (unless_null_leads (λ t. t < length trades) (trade_at trades place) (trade_leads trades place) value)
       (λ node is.
       leads_ok (All IsKnown) (nodes ++ node ∷ []) (All-push IsKnown nodes node known is))
@@ -118,7 +118,7 @@ module _ (trades : List (List ℕ)) where
   unfolding one_node
   one_node_counts nodes value =
       leads_after (λ next. length next ≡ length nodes + 1)
-      (node_at trades (member_place Nodes ++ Index (length nodes) ∷ []) value) _ (λ node.
+      (node_or_null trades (member_place Nodes ++ Index (length nodes) ∷ []) value) _ (λ node.
       leads_ok (λ next. length next ≡ length nodes + 1) (nodes ++ node ∷ []) (length-append nodes (node ∷ [])))
 
 module _ (listed : Listed) where

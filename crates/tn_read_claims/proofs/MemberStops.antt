@@ -7,25 +7,25 @@ use Rattle.serde_json.specs.Events.{items_len}
 use Rattle.serde_json.specs.Find.{get}
 use Rattle.tn_base.specs.Sets.{toggle}
 use Rattle.tn_base.proofs.SetLemmas.{toggle_within}
-use Rattle.tn_base.specs.declared.fault.FaultKind.TheVariants.{Limit, Shape}
-use Rattle.tn_plain_data.specs.declared.place.PlaceStep.{PlaceStep}
-use Rattle.tn_plain_data.specs.declared.place.PlaceStep.TheVariants.{Index}
-use Rattle.tn_plain_data.specs.declared.place.Word.TheVariants.{Contracts, Gain, Nodes, On, Prices}
-use Rattle.tn_plain_data.specs.declared.said.Fault.{Fault}
-use Rattle.tn_shape.specs.Reading.{◌>>=◌, each, holds, wanted}
-use Rattle.tn_shape.specs.Shapes.{few_at, list_at, number_at}
-use Rattle.tn_shape.proofs.LeadLemmas.{Leads, leads_as, leads_bind, leads_ok}
-use Rattle.tn_shape.proofs.ShapeLeads.{few_lead}
-use Rattle.tn_shape.proofs.ShapeStops.{few_stops, list_stops, number_stops}
-use Rattle.tn_shape.proofs.StopLemmas.{IsPlain, IsPlainPlace, Stops, StopsPlainly, plain_holds, plain_wanted, stops_after, stops_bind, stops_each, stops_each_few, stops_ok}
+use Rattle.tn_said.specs.declared.fault.FaultKind.TheVariants.{Limit, Shape}
+use Rattle.tn_said.specs.declared.place.PlaceStep.{PlaceStep}
+use Rattle.tn_said.specs.declared.place.PlaceStep.TheVariants.{Index}
+use Rattle.tn_said.specs.declared.place.Word.TheVariants.{Contracts, Gain, Nodes, On, Prices}
+use Rattle.tn_said.specs.declared.said.Fault.{Fault}
+use Rattle.tn_read_shapes.specs.Reading.{◌>>=◌, each, holds, wanted}
+use Rattle.tn_read_shapes.specs.Shapes.{few_at, list_at, number_at}
+use Rattle.tn_read_shapes.proofs.LeadLemmas.{Leads, leads_as, leads_bind, leads_ok}
+use Rattle.tn_read_shapes.proofs.ShapeLeads.{few_lead}
+use Rattle.tn_read_shapes.proofs.ShapeStops.{few_stops, list_stops, number_stops}
+use Rattle.tn_read_shapes.proofs.StopLemmas.{IsPlain, IsPlainPlace, Stops, StopsPlainly, plain_holds, plain_wanted, stops_after, stops_bind, stops_each, stops_each_few, stops_ok}
 use Rattle.tn_read_references.specs.Ordered.{Listed}
 use Rattle.tn_read_references.specs.References.{new_trade, own_position, trade_at}
 use Rattle.tn_read_references.proofs.ReferenceStops.{entry_below, entry_stops, own_position_stops, trade_at_stops}
 use Rattle.tn_read_references.proofs.ToldLemmas.{IsTold, told_from_plain}
 use Rattle.tn_read_parts.specs.Lists.{price_of}
 use Rattle.tn_read_parts.proofs.ListStops.{prices_stop, set_stops, trades_refer}
-use Rattle.tn_plain_data.specs.Limits.{AreLimits, least_nodes, most_nodes}
-use Rattle.tn_read_claims.specs.Members.{Offered, claimed_contracts, claimed_nodes, claimed_on, claimed_prices, gain_or_null, member_place, no_offers, node_at, one_node, one_offer, own_or_null, unless_null}
+use Rattle.tn_model.specs.Limits.{AreLimits, least_nodes, most_nodes}
+use Rattle.tn_read_claims.specs.Members.{Offered, claimed_contracts, claimed_nodes, claimed_on, claimed_prices, gain_or_null, member_place, no_offers, node_or_null, one_node, one_offer, own_or_null, unless_null}
 use Rattle.tn_read_claims.proofs.MemberLeads.{one_node_counts}
 
 module _ {A : Type 0} (read : Data → Result A Fault) (stops : (value : Data) → StopsPlainly (read value)) where
@@ -60,7 +60,7 @@ module _ (trades : List (List ℕ)) where
   one_node_stops nodes value room =
       let place = member_place Nodes ++ Index (length nodes) ∷ [] in
       let few : length nodes ≤ 16384 = omega (arith, room) in
-      stops_bind IsPlain (node_at trades place value) _ (unless_null_stops (trade_at trades place)
+      stops_bind IsPlain (node_or_null trades place value) _ (unless_null_stops (trade_at trades place)
       (trade_at_stops place (tt, (tt, (few, tt))) trades) value) (λ node.
       stops_ok IsPlain (nodes ++ node ∷ []))
 

@@ -5,12 +5,12 @@ use Rattle.std.proofs.lemmas.Bool.{and_parts, cases_lt, eqb-true, or_cases}
 use Rattle.std.proofs.lemmas.List.{take_all}
 use Rattle.std.proofs.lemmas.Option.{same_Some, slice_get_within}
 use Rattle.tn_base.specs.Firm.{Firm}
-use Rattle.tn_plain_data.specs.declared.ends.Ends.{Ends}
-use Rattle.tn_plain_data.specs.InOrder.{sides_of, AreInOrder}
-use Rattle.tn_plain_data.specs.Network.{own, stands_at, IsNetwork}
-use Rattle.tn_plain_data.proofs.InOrderLemmas.{own_side}
-use Rattle.tn_plain_data.proofs.InOrderNetworks.{found, position_from_stands}
-use Rattle.tn_plain_data.proofs.NetworkLemmas.{own_stands}
+use Rattle.tn_model.specs.declared.ends.Ends.{Ends}
+use Rattle.tn_model.specs.InOrder.{sides_of, AreInOrder}
+use Rattle.tn_model.specs.Network.{own, stands_at, IsNetwork}
+use Rattle.tn_model.proofs.InOrderLemmas.{own_side}
+use Rattle.tn_model.proofs.InOrderNetworks.{found, position_from_stands}
+use Rattle.tn_model.proofs.NetworkLemmas.{own_stands}
 
 module _ (firms : List Firm) (trades : List Ends) (order : AreInOrder (length firms) trades)
     (network : IsNetwork firms trades) (f : ℕ) (firm : Firm) (is : slice_get firms f ≡ Some firm) where

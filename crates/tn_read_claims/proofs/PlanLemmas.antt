@@ -8,21 +8,21 @@ use Rattle.std.proofs.lemmas.List.Elements.{All-nil, All-push}
 use Rattle.serde_json.specs.Data.{Data}
 use Rattle.serde_json.specs.Events.{items_len}
 use Rattle.serde_json.specs.Find.{get}
-use Rattle.tn_base.specs.declared.fault.FaultKind.TheVariants.{AmountRange}
-use Rattle.tn_plain_data.specs.Limits.{most_own_trades, most_parts}
-use Rattle.tn_plain_data.specs.declared.part.Part.{Part}
-use Rattle.tn_plain_data.specs.declared.place.PlaceStep.{PlaceStep}
-use Rattle.tn_shape.specs.Reading.{each, holds}
-use Rattle.tn_shape.specs.Shapes.{few_at, three_at, whole_at}
-use Rattle.tn_shape.proofs.LeadLemmas.{Leads, leads_after, leads_as, leads_bind, leads_both, leads_count, leads_each, leads_holds, leads_ok}
-use Rattle.tn_shape.proofs.ShapeLeads.{few_lead}
-use Rattle.tn_shape.proofs.ShapeStops.{few_stops, three_stops, whole_stops}
-use Rattle.tn_shape.proofs.StopLemmas.{IsPlain, IsPlainPlace, StopsPlainly, plain_holds, stops_after, stops_bind, stops_each_few, stops_ok}
+use Rattle.tn_said.specs.declared.fault.FaultKind.TheVariants.{AmountRange}
+use Rattle.tn_model.specs.Limits.{most_own_trades, most_parts}
+use Rattle.tn_said.specs.declared.part.Part.{Part}
+use Rattle.tn_said.specs.declared.place.PlaceStep.{PlaceStep}
+use Rattle.tn_read_shapes.specs.Reading.{each, holds}
+use Rattle.tn_read_shapes.specs.Shapes.{few_at, three_at, whole_at}
+use Rattle.tn_read_shapes.proofs.LeadLemmas.{Leads, leads_after, leads_as, leads_bind, leads_both, leads_count, leads_each, leads_holds, leads_ok}
+use Rattle.tn_read_shapes.proofs.ShapeLeads.{few_lead}
+use Rattle.tn_read_shapes.proofs.ShapeStops.{few_stops, three_stops, whole_stops}
+use Rattle.tn_read_shapes.proofs.StopLemmas.{IsPlain, IsPlainPlace, StopsPlainly, plain_holds, stops_after, stops_bind, stops_each_few, stops_ok}
 use Rattle.tn_read_references.specs.Ordered.{AreTrades, Listed, sides_of}
 use Rattle.tn_read_references.specs.References.{bundle_at, firm_at}
 use Rattle.tn_read_references.proofs.ReferenceLeads.{bundle_leads, firm_at_leads}
 use Rattle.tn_read_references.proofs.ReferenceStops.{bundle_stops, firm_at_stops}
-use Rattle.tn_read_claims.specs.Planned.{claimed_plan, in_part, one_part, part_at, part_of, plan_place, weight_at}
+use Rattle.tn_read_claims.specs.Planned.{claimed_plan, in_part, one_part, part_at, part_of, plan_place, plan_weight_at}
 use Rattle.tn_read_parts.proofs.OutcomeLeads.{IsOver}
 
 one_part_counts : (listed : Listed) (parts : List Part) (entry : Data)
@@ -45,8 +45,8 @@ module _ (listed : Listed) where
       let parts = and_parts (int_le (pos 1) weight) (int_le weight (pos listed.limits.claimed_over)) e in
       record { least = search (arith, ints, parts.0); most = search (arith, ints, parts.1) }
 
-  weight_leads : (place : List PlaceStep) (value : Data) → Leads IsWeight (weight_at listed place value)
-  unfolding weight_at
+  weight_leads : (place : List PlaceStep) (value : Data) → Leads IsWeight (plan_weight_at listed place value)
+  unfolding plan_weight_at
   weight_leads place value =
       leads_after IsWeight (whole_at place (Some value)) _ (λ weight.
       let test = int_le (pos 1) weight && int_le weight (pos listed.limits.claimed_over) in
@@ -63,7 +63,7 @@ module _ (listed : Listed) where
       leads_after IsWeighed (three_at (part_at k) entry) _ (λ three.
       leads_after IsWeighed (firm_at listed.names.firms (in_part k 0) (Some three.0)) _ (λ f.
       leads_after IsWeighed (bundle_at listed f (in_part k 1) (Some three.1)) _ (λ x.
-      leads_bind IsWeight IsWeighed (weight_at listed (in_part k 2) three.2) _ (weight_leads (in_part k 2) three.2)
+      leads_bind IsWeight IsWeighed (plan_weight_at listed (in_part k 2) three.2) _ (weight_leads (in_part k 2) three.2)
       (λ w is.
       leads_ok IsWeighed (record { firm = f; bundle = x; weight = w }) is))))
 
@@ -100,7 +100,7 @@ module _ (listed : Listed) (trades : AreTrades listed) where
       leads_bind (λ x. x < 2 ^ length (sides_of listed.ends f)) IsOwnPart
       (bundle_at listed f (in_part k 1) (Some three.1)) _
       (bundle_leads listed trades f (in_part k 1) (Some three.1)) (λ x own.
-      leads_bind (IsWeight listed) IsOwnPart (weight_at listed (in_part k 2) three.2) _
+      leads_bind (IsWeight listed) IsOwnPart (plan_weight_at listed (in_part k 2) three.2) _
       (weight_leads listed (in_part k 2) three.2) (λ w within.
       leads_ok IsOwnPart (record { firm = f; bundle = x; weight = w }) (record {
         known = known;
@@ -139,8 +139,8 @@ module _ (listed : Listed) (trades : AreTrades listed) where
 module _ (listed : Listed) (trades : AreTrades listed) (few_own : (f : ℕ) → f < length listed.names.firms
     → length (sides_of listed.ends f) ≤ most_own_trades) where
   weight_stops : (place : List PlaceStep) → IsPlainPlace place → (value : Data)
-      → StopsPlainly (weight_at listed place value)
-  unfolding weight_at
+      → StopsPlainly (plan_weight_at listed place value)
+  unfolding plan_weight_at
   weight_stops place plain value =
       stops_bind IsPlain (whole_at place (Some value)) _ (whole_stops place plain (Some value)) (λ weight.
       let test = int_le (pos 1) weight && int_le weight (pos listed.limits.claimed_over) in
@@ -158,7 +158,7 @@ module _ (listed : Listed) (trades : AreTrades listed) (few_own : (f : ℕ) → 
       (firm_at_stops (in_part k 0) (in_is 0 (omega arith)) listed.names.firms (Some three.0)) (λ f known.
       stops_bind IsPlain (bundle_at listed f (in_part k 1) (Some three.1)) _
       (bundle_stops listed trades f (few_own f known) (in_part k 1) (in_is 1 (omega arith)) (Some three.1)) (λ x.
-      stops_bind IsPlain (weight_at listed (in_part k 2) three.2) _
+      stops_bind IsPlain (plan_weight_at listed (in_part k 2) three.2) _
       (weight_stops (in_part k 2) (in_is 2 (omega arith)) three.2) (λ w.
       stops_ok IsPlain (record { firm = f; bundle = x; weight = w })))))
 

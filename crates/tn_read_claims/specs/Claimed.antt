@@ -2,18 +2,18 @@
 use Rattle.std.specs.Prelude.{ℕ, nat_le, List, length, codes, Bool, true, false, Some, option_and_then, option_map, unwrap_or, Result, Ok}
 use Rattle.serde_json.specs.Data.{Data}
 use Rattle.serde_json.specs.Find.{get, as_str}
-use Rattle.tn_base.specs.declared.fault.FaultKind.TheVariants.{Shape, Limit}
-use Rattle.tn_plain_data.specs.Limits.{most_planned_trades}
-use Rattle.tn_plain_data.specs.declared.claim.Claim.{Claim}
-use Rattle.tn_plain_data.specs.declared.claim.Claim.TheVariants.{Equilibrium, Better, Impossible, Accepted, ExchangeFails, Supported, Cycle, Solved, Drops, Completes, Blocks, NoPrices}
-use Rattle.tn_plain_data.specs.declared.place.Word.TheVariants.{Answer, At, Bundle, Cost, Gain, Keeps, Surplus, X, Y}
-use Rattle.tn_plain_data.specs.declared.said.Fault.{Fault}
-use Rattle.tn_shape.specs.declared.claims.ClaimKind.{ClaimKind}
-use Rattle.tn_shape.specs.declared.claims.ClaimKind.TheVariants.{Equilibrium as EquilibriumKind, Better as BetterKind, Impossible as ImpossibleKind, Accepted as AcceptedKind, ExchangeFails as ExchangeFailsKind, Supported as SupportedKind, Cycle as CycleKind, Solved as SolvedKind, Drops as DropsKind, Completes as CompletesKind, Blocks as BlocksKind, NoPrices as NoPricesKind}
-use Rattle.tn_shape.specs.declared.members.ObjectKind.TheVariants.{Claim as ClaimObject}
-use Rattle.tn_shape.specs.Claims.{claim_named}
-use Rattle.tn_shape.specs.Reading.{◌>>=◌, holds, wanted}
-use Rattle.tn_shape.specs.Shapes.{object_at, object_of, text_at}
+use Rattle.tn_said.specs.declared.fault.FaultKind.TheVariants.{Shape, Limit}
+use Rattle.tn_model.specs.Limits.{most_planned_trades}
+use Rattle.tn_said.specs.declared.claim.Claim.{Claim}
+use Rattle.tn_said.specs.declared.claim.Claim.TheVariants.{Equilibrium, Better, Impossible, Accepted, ExchangeFails, Supported, Cycle, Solved, Drops, Completes, Blocks, NoPrices}
+use Rattle.tn_said.specs.declared.place.Word.TheVariants.{Answer, At, Bundle, Cost, Gain, Keeps, Surplus, X, Y}
+use Rattle.tn_said.specs.declared.said.Fault.{Fault}
+use Rattle.tn_read_shapes.specs.declared.claims.ClaimKind.{ClaimKind}
+use Rattle.tn_read_shapes.specs.declared.claims.ClaimKind.TheVariants.{Equilibrium as EquilibriumKind, Better as BetterKind, Impossible as ImpossibleKind, Accepted as AcceptedKind, ExchangeFails as ExchangeFailsKind, Supported as SupportedKind, Cycle as CycleKind, Solved as SolvedKind, Drops as DropsKind, Completes as CompletesKind, Blocks as BlocksKind, NoPrices as NoPricesKind}
+use Rattle.tn_read_shapes.specs.declared.members.ObjectKind.TheVariants.{Claim as ClaimObject}
+use Rattle.tn_read_shapes.specs.Claims.{claim_named}
+use Rattle.tn_read_shapes.specs.Reading.{◌>>=◌, holds, wanted}
+use Rattle.tn_read_shapes.specs.Shapes.{object_at, object_of, text_at}
 use Rattle.tn_read_references.specs.Ordered.{Listed}
 use Rattle.tn_read_parts.specs.Arranged.{arrangement_of, trades_on_of}
 use Rattle.tn_read_parts.specs.Signed.{outcome_of}
@@ -151,22 +151,22 @@ claim_of listed top = do
 
 -- claims on exchange, and the one that there are no prices, are made of firms as they are listed, whether these meet
 -- exchange or not
-abbrev pub is_raw : ClaimKind → Bool
-is_raw EquilibriumKind = false
-is_raw BetterKind = false
-is_raw ImpossibleKind = false
-is_raw AcceptedKind = true
-is_raw ExchangeFailsKind = true
-is_raw SupportedKind = false
-is_raw CycleKind = false
-is_raw SolvedKind = false
-is_raw DropsKind = false
-is_raw CompletesKind = false
-is_raw BlocksKind = false
-is_raw NoPricesKind = true
+abbrev pub is_raw_kind : ClaimKind → Bool
+is_raw_kind EquilibriumKind = false
+is_raw_kind BetterKind = false
+is_raw_kind ImpossibleKind = false
+is_raw_kind AcceptedKind = true
+is_raw_kind ExchangeFailsKind = true
+is_raw_kind SupportedKind = false
+is_raw_kind CycleKind = false
+is_raw_kind SolvedKind = false
+is_raw_kind DropsKind = false
+is_raw_kind CompletesKind = false
+is_raw_kind BlocksKind = false
+is_raw_kind NoPricesKind = true
 
 abbrev pub names_raw : List ℕ → Bool
-names_raw text = unwrap_or (option_map is_raw (claim_named text)) false
+names_raw text = unwrap_or (option_map is_raw_kind (claim_named text)) false
 
 -- whether a document's claim is an object whose answer is that of such a claim
 abbrev pub claims_raw : Data → Bool

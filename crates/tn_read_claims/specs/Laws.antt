@@ -1,17 +1,17 @@
 -- What holds of every claim that is read, and of every fault of one, in words that know nothing of the reading.
 use Rattle.std.specs.Prelude.{◌≡◌, ◌≤◌, pos, ◌≤ℤ◌, List, length, All, Bool, true, false, Ok, Err}
 use Rattle.serde_json.specs.Data.{Data}
-use Rattle.tn_base.specs.declared.fault.FaultKind.{FaultKind}
-use Rattle.tn_base.specs.declared.fault.FaultKind.TheVariants.{NotJson, TooLong, Shape, BadName, SameName, UnknownFirm, SelfTrade, UnknownTrade, Limit, AmountRange, NotOwnTrade, SameBundle, NoEmpty, NotLaminar, NotConcave, ExchangeFails, SameTrade, PriceMissing, BadOver, SamePair}
+use Rattle.tn_said.specs.declared.fault.FaultKind.{FaultKind}
+use Rattle.tn_said.specs.declared.fault.FaultKind.TheVariants.{NotJson, TooLong, Shape, BadName, SameName, UnknownFirm, SelfTrade, UnknownTrade, Limit, AmountRange, NotOwnTrade, SameBundle, NoEmpty, NotLaminar, NotConcave, ExchangeFails, SameTrade, PriceMissing, BadOver, SamePair}
 use Rattle.tn_base.specs.Firm.{Firm}
-use Rattle.tn_plain_data.specs.declared.said.Fault.{Fault}
-use Rattle.tn_plain_data.specs.declared.claim.Claim.{Claim}
-use Rattle.tn_plain_data.specs.declared.claim.Claim.TheVariants.{Cycle, Drops, Completes, Blocks, NoPrices}
-use Rattle.tn_plain_data.specs.declared.limits.Limits.{Limits}
-use Rattle.tn_plain_data.specs.ClaimLimits.{IsClaimWithin}
-use Rattle.tn_plain_data.specs.Network.{IsNetwork}
+use Rattle.tn_said.specs.declared.said.Fault.{Fault}
+use Rattle.tn_said.specs.declared.claim.Claim.{Claim}
+use Rattle.tn_said.specs.declared.claim.Claim.TheVariants.{Cycle, Drops, Completes, Blocks, NoPrices}
+use Rattle.tn_model.specs.declared.limits.Limits.{Limits}
+use Rattle.tn_said.specs.ClaimLimits.{IsClaimWithin}
+use Rattle.tn_model.specs.Network.{IsNetwork}
 use Rattle.tn_read_references.specs.Ordered.{Listed, AreTrades}
-use Rattle.tn_read_claims.specs.Claimed.{claim_of, claims_raw, is_raw, kind_is}
+use Rattle.tn_read_claims.specs.Claimed.{claim_of, claims_raw, is_raw_kind, kind_is}
 
 -- a claim of a document whose firms and trades are a network speaks of its firms, trades and positions, within the
 -- limits of claims
@@ -38,7 +38,7 @@ ClaimsKeepLimits = (listed : Listed) (top : Data) (claim : Claim) → claim_of l
 -- whether its network is read raw is told before it is read
 abbrev pub RawClaimsAreTold : Type 0
 RawClaimsAreTold = (listed : Listed) (top : Data) (claim : Claim) → claim_of listed top ≡ Ok claim
-    → claims_raw top ≡ is_raw (kind_is claim)
+    → claims_raw top ≡ is_raw_kind (kind_is claim)
 
 -- the kinds of faults that a claim, or the part that it speaks of, may have
 abbrev pub is_claim_fault : FaultKind → Bool

@@ -4,16 +4,16 @@ use Rattle.serde_json.specs.Data.{Data, null}
 use Rattle.serde_json.specs.Events.{items_len}
 use Rattle.serde_json.specs.Find.{get}
 use Rattle.tn_base.specs.Sets.{toggle}
-use Rattle.tn_base.specs.declared.fault.FaultKind.TheVariants.{Shape, Limit}
-use Rattle.tn_plain_data.specs.Limits.{least_nodes}
-use Rattle.tn_plain_data.specs.declared.contract.Contract.{Contract}
-use Rattle.tn_plain_data.specs.declared.place.PlaceStep.{PlaceStep}
-use Rattle.tn_plain_data.specs.declared.place.PlaceStep.TheVariants.{Index, Key}
-use Rattle.tn_plain_data.specs.declared.place.Word.{Word}
-use Rattle.tn_plain_data.specs.declared.place.Word.TheVariants.{Claim, Contracts, Firm, Gain, Nodes, On, Over, Prices}
-use Rattle.tn_plain_data.specs.declared.said.Fault.{Fault}
-use Rattle.tn_shape.specs.Reading.{◌>>=◌, each, holds, wanted}
-use Rattle.tn_shape.specs.Shapes.{few_at, list_at, number_at, number_in}
+use Rattle.tn_said.specs.declared.fault.FaultKind.TheVariants.{Shape, Limit}
+use Rattle.tn_model.specs.Limits.{least_nodes}
+use Rattle.tn_model.specs.declared.contract.Contract.{Contract}
+use Rattle.tn_said.specs.declared.place.PlaceStep.{PlaceStep}
+use Rattle.tn_said.specs.declared.place.PlaceStep.TheVariants.{Index, Key}
+use Rattle.tn_said.specs.declared.place.Word.{Word}
+use Rattle.tn_said.specs.declared.place.Word.TheVariants.{Claim, Contracts, Firm, Gain, Nodes, On, Over, Prices}
+use Rattle.tn_said.specs.declared.said.Fault.{Fault}
+use Rattle.tn_read_shapes.specs.Reading.{◌>>=◌, each, holds, wanted}
+use Rattle.tn_read_shapes.specs.Shapes.{few_at, list_at, number_at, number_in}
 use Rattle.tn_read_references.specs.Ordered.{Listed}
 use Rattle.tn_read_references.specs.References.{bundle_at, firm_at, own_position, trade_at}
 use Rattle.tn_read_parts.specs.Lists.{one_on, price_of, prices_of}
@@ -73,13 +73,13 @@ claimed_prices listed claim = do
   prices_of listed.names.trades (member_place Prices) listed.limits.number entries
 
 -- a node: null, or a trade, which earlier nodes may name too
-abbrev pub node_at : List (List ℕ) → List PlaceStep → Data → Result (Option ℕ) Fault
-node_at trades place value = unless_null (trade_at trades place) value
+abbrev pub node_or_null : List (List ℕ) → List PlaceStep → Data → Result (Option ℕ) Fault
+node_or_null trades place value = unless_null (trade_at trades place) value
 
 -- one more node; its index is the count of those before it
 unfoldable pub one_node : List (List ℕ) → List (Option ℕ) → Data → Result (List (Option ℕ)) Fault
 one_node trades nodes value = do
-  node ← node_at trades (member_place Nodes ++ Index (length nodes) ∷ []) value
+  node ← node_or_null trades (member_place Nodes ++ Index (length nodes) ∷ []) value
   Ok (nodes ++ node ∷ [])
 
 -- the claim's nodes, not too few and at most as many as the document's limit

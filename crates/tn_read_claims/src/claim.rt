@@ -2,8 +2,8 @@
 
 ghost use Rattle.std.specs.Prelude.{ℕ, ◌<◌, ◌≤◌, length};
 ghost use Rattle.serde_json.specs.View.{view};
-ghost use Rattle.tn_plain_data.specs.Limits.{most_own_trades};
-ghost use Rattle.tn_shape.specs.Reading.{Gives};
+ghost use Rattle.tn_model.specs.Limits.{most_own_trades};
+ghost use Rattle.tn_read_shapes.specs.Reading.{Gives};
 ghost use Rattle.tn_read_references.specs.Ordered.{sides_of};
 ghost use Rattle.tn_read_claims.specs.Claimed.{claim_by, claim_of, kind_of};
 
@@ -13,11 +13,10 @@ use crate::kinds::{
 };
 use serde_json::Value;
 use std::alloc::Global;
-use tn_base::FaultKind;
-use tn_plain_data::PlaceStep::Key;
-use tn_plain_data::{Claim, Word};
 use tn_read_references::Head;
-use tn_shape::{ClaimKind, ReadError, claim_named, found, member, object, present, text};
+use tn_read_shapes::{ClaimKind, ReadError, claim_named, found, member, object, present, text};
+use tn_said::PlaceStep::Key;
+use tn_said::{Claim, FaultKind, Word};
 
 /// The claim of a document whose network is listed. No firm has more than 60 own trades.
 #[tactic(auto, unfolding(crate::specs::Claimed::claim_of))]

@@ -1,18 +1,19 @@
 //! The contracts of a claim.
 
 ghost use Rattle.serde_json.specs.View.{view, items_view};
-ghost use Rattle.tn_shape.specs.Reading.{Gives, each};
+ghost use Rattle.tn_read_shapes.specs.Reading.{Gives, each};
 ghost use Rattle.tn_read_parts.specs.Lists.{list_place};
 ghost use Rattle.tn_read_claims.specs.Members.{claimed_contracts, no_offers, one_offer};
 
 use serde_json::Value;
 use std::alloc::Global;
 use tn_base::TradeSet;
-use tn_plain_data::PlaceStep::Key;
-use tn_plain_data::{Contract, Contracts, Word};
+use tn_model::{Contract, Contracts};
 use tn_read_parts::{ListAt, price_of};
 use tn_read_references::Head;
-use tn_shape::{ReadError, list, member};
+use tn_read_shapes::{ReadError, list, member};
+use tn_said::PlaceStep::Key;
+use tn_said::Word;
 
 /// The claim's contracts, in the order of the list.
 #[tactic(auto, unfolding(crate::specs::Members::claimed_contracts))]

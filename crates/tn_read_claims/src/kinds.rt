@@ -2,8 +2,8 @@
 
 ghost use Rattle.std.specs.Prelude.{ℕ, ◌<◌, ◌≤◌, length};
 ghost use Rattle.serde_json.specs.View.{view};
-ghost use Rattle.tn_plain_data.specs.Limits.{most_own_trades};
-ghost use Rattle.tn_shape.specs.Reading.{Gives};
+ghost use Rattle.tn_model.specs.Limits.{most_own_trades};
+ghost use Rattle.tn_read_shapes.specs.Reading.{Gives};
 ghost use Rattle.tn_read_references.specs.Ordered.{sides_of};
 ghost use Rattle.tn_read_claims.specs.Claimed.{accepted_of, better_of, blocks_of, completes_of, cycle_of, drops_of, equilibrium_of, failure_of, frame_of, impossible_of, no_prices_of, solved_of, supported_of};
 
@@ -15,12 +15,12 @@ use crate::nodes::nodes_of;
 use crate::plan::plan_of;
 use serde_json::Value;
 use std::alloc::Global;
-use tn_base::FaultKind;
-use tn_plain_data::PlaceStep::Key;
-use tn_plain_data::{Arrangement, Claim, Word};
+use tn_model::Arrangement;
 use tn_read_parts::{read_arrangement, read_outcome, read_trades_on};
 use tn_read_references::Head;
-use tn_shape::{ClaimKind, ObjectKind, ReadError, member, object_of, require};
+use tn_read_shapes::{ClaimKind, ObjectKind, ReadError, member, object_of, require};
+use tn_said::PlaceStep::Key;
+use tn_said::{Claim, FaultKind, Word};
 
 /// The most trades of a document whose claim is a plan: it is held against every set of them.
 const MOST_PLANNED_TRADES: usize = 20;

@@ -2,19 +2,20 @@
 
 ghost use Rattle.std.specs.Prelude.{◌<◌, ◌≤◌, length, option_map, IfOk};
 ghost use Rattle.serde_json.specs.View.{view};
-ghost use Rattle.tn_plain_data.specs.Limits.{most_own_trades};
-ghost use Rattle.tn_shape.specs.Reading.{Gives};
+ghost use Rattle.tn_model.specs.Limits.{most_own_trades};
+ghost use Rattle.tn_read_shapes.specs.Reading.{Gives};
 ghost use Rattle.tn_read_references.specs.Ordered.{sides_of};
 ghost use Rattle.tn_read_claims.specs.Members.{claimed_bundle, claimed_firm, claimed_number, claimed_on, claimed_over, claimed_prices, gain_or_null, own_or_null};
 
 use serde_json::Value;
 use std::alloc::Global;
-use tn_base::{Bundle, FaultKind, TradeSet};
-use tn_plain_data::PlaceStep::Key;
-use tn_plain_data::{PlaceStep, Prices, Word};
+use tn_base::{Bundle, TradeSet};
+use tn_model::Prices;
 use tn_read_parts::{ListAt, read_over, read_prices, read_trades};
 use tn_read_references::{Head, OwnPart, PartAt, firm, own_bundle, own_position};
-use tn_shape::{ReadError, fault, list, member, number};
+use tn_read_shapes::{ReadError, fault, list, member, number};
+use tn_said::PlaceStep::Key;
+use tn_said::{FaultKind, PlaceStep, Word};
 
 /// A number that a claim speaks of.
 pub(crate) fn number_of(

@@ -2,23 +2,23 @@
 
 ghost use Rattle.std.specs.Prelude.{◌≡◌, ◌+◌, ◌<◌, ◌≤◌, [], length, OnOk};
 ghost use Rattle.serde_json.specs.View.{view, items_view};
-ghost use Rattle.tn_plain_data.specs.Limits.{most_nodes};
-ghost use Rattle.tn_shape.specs.Reading.{Gives, each};
-ghost use Rattle.tn_read_claims.specs.Members.{claimed_nodes, node_at, one_node};
+ghost use Rattle.tn_model.specs.Limits.{most_nodes};
+ghost use Rattle.tn_read_shapes.specs.Reading.{Gives, each};
+ghost use Rattle.tn_read_claims.specs.Members.{claimed_nodes, node_or_null, one_node};
 
 use serde_json::Value;
 use std::alloc::Global;
-use tn_base::FaultKind;
-use tn_plain_data::PlaceStep::{Index, Key};
-use tn_plain_data::{Nodes, PlaceStep, Word};
+use tn_model::Nodes;
 use tn_read_references::{Head, trade};
-use tn_shape::{ReadError, few, member, require};
+use tn_read_shapes::{ReadError, few, member, require};
+use tn_said::PlaceStep::{Index, Key};
+use tn_said::{FaultKind, PlaceStep, Word};
 
 /// The fewest nodes of a cycle.
 const LEAST_NODES: usize = 2;
 
 /// The claim's nodes, in their order, at least 2 and at most as many as the document's limit.
-#[tactic(auto, unfolding(crate::specs::Members::claimed_nodes), using(tn_shape::proofs::ShapeLemmas::items_len_is))]
+#[tactic(auto, unfolding(crate::specs::Members::claimed_nodes), using(tn_read_shapes::proofs::ShapeLemmas::items_len_is))]
 pub(crate) fn nodes_of(alloc: Global, head: &Head, claim: &Value) -> Result<Nodes, ReadError>
     ensures { Gives (λ nodes. nodes) result (claimed_nodes head.now (view claim.now)) }
 {
@@ -66,19 +66,19 @@ fn add_node(
         Key(Word::Nodes),
         Index(nodes.len() as u32),
     ];
-    let node = node_at(alloc, head, value, &place)?;
+    let node = node_or_null(alloc, head, value, &place)?;
     nodes.push(node)?;
     Ok(())
 }
 
 /// A node: a trade, or the null node.
-fn node_at(
+fn node_or_null(
     alloc: Global,
     head: &Head,
     value: &Value,
     place: &[PlaceStep],
 ) -> Result<Option<u32>, ReadError>
-    ensures { Gives (λ node. node) result (node_at head.now.names.trades place.now (view value.now)) }
+    ensures { Gives (λ node. node) result (node_or_null head.now.names.trades place.now (view value.now)) }
 {
     match value {
         Value::Null => Ok(None),

@@ -2,19 +2,19 @@
 
 ghost use Rattle.std.specs.Prelude.{◌≡◌, ◌+◌, ◌<◌, ◌≤◌, ℕ, [], Some, length, OnOk};
 ghost use Rattle.serde_json.specs.View.{view, items_view};
-ghost use Rattle.tn_plain_data.specs.Limits.{most_own_trades, most_parts};
-ghost use Rattle.tn_shape.specs.Reading.{Gives, each};
+ghost use Rattle.tn_model.specs.Limits.{most_own_trades, most_parts};
+ghost use Rattle.tn_read_shapes.specs.Reading.{Gives, each};
 ghost use Rattle.tn_read_references.specs.Ordered.{sides_of};
 ghost use Rattle.tn_read_references.specs.References.{bundle_at};
-ghost use Rattle.tn_read_claims.specs.Planned.{claimed_plan, in_part, one_part, part_of, weight_at};
+ghost use Rattle.tn_read_claims.specs.Planned.{claimed_plan, in_part, one_part, part_of, plan_weight_at};
 
 use serde_json::Value;
 use std::alloc::Global;
-use tn_base::{Bundle, FaultKind};
-use tn_plain_data::PlaceStep::{Index, Key};
-use tn_plain_data::{Part, Parts, Word};
+use tn_base::Bundle;
 use tn_read_references::{Head, OwnPart, PartAt, firm, own_bundle};
-use tn_shape::{ReadError, few, member, require, three, whole};
+use tn_read_shapes::{ReadError, few, member, require, three, whole};
+use tn_said::PlaceStep::{Index, Key};
+use tn_said::{FaultKind, Part, Parts, Word};
 
 /// The most parts of a plan.
 const MOST_PARTS: u32 = 1024;
@@ -112,10 +112,10 @@ fn bundle_of(
 }
 
 /// The weight of the part with index `k`, from 1 to the largest denominator of a claim.
-#[tactic(auto, unfolding(crate::specs::Planned::weight_at))]
+#[tactic(auto, unfolding(crate::specs::Planned::plan_weight_at))]
 fn weight_of(alloc: Global, head: &Head, k: u32, number: &Value) -> Result<i128, ReadError>
     ensures { Gives (λ weight. weight) result
-        (weight_at head.now (in_part k 2) (view number.now)) }
+        (plan_weight_at head.now (in_part k 2) (view number.now)) }
 {
     let place = [Key(Word::Claim), Key(Word::Plan), Index(k), Index(2)];
     let weight = whole(alloc, Some(number), &place)?;

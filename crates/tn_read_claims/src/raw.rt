@@ -3,11 +3,11 @@
 ghost use Rattle.std.specs.Prelude.{◌≡◌, codes, option_and_then, option_map};
 ghost use Rattle.serde_json.specs.Find.{as_str, get};
 ghost use Rattle.serde_json.specs.View.{view};
-ghost use Rattle.tn_read_claims.specs.Claimed.{claims_raw, is_raw, names_raw};
+ghost use Rattle.tn_read_claims.specs.Claimed.{claims_raw, is_raw_kind, names_raw};
 
 use serde_json::Value;
-use tn_plain_data::Word;
-use tn_shape::{ClaimKind, claim_named, member};
+use tn_read_shapes::{ClaimKind, claim_named, member};
+use tn_said::Word;
 
 /// Whether a document's claim is one on exchange, or that there are no prices, by its answer: such a claim is made of
 /// firms as they are listed.
@@ -35,14 +35,14 @@ fn names_raw(text: &str) -> bool
     ensures { result ≡ names_raw text.now }
 {
     match claim_named(text) {
-        Some(kind) => is_raw(kind),
+        Some(kind) => is_raw_kind(kind),
         None => false,
     }
 }
 
 /// Whether claims of a kind are made of firms as they are listed.
-fn is_raw(kind: ClaimKind) -> bool
-    ensures { result ≡ is_raw kind }
+fn is_raw_kind(kind: ClaimKind) -> bool
+    ensures { result ≡ is_raw_kind kind }
 {
     match kind {
         ClaimKind::Accepted | ClaimKind::ExchangeFails | ClaimKind::NoPrices => true,

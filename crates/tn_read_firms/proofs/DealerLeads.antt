@@ -11,22 +11,22 @@ use Rattle.tn_base.specs.Arcs.{IsAtMost}
 use Rattle.tn_base.specs.Widths.{most_amount}
 use Rattle.tn_base.specs.Sets.{has}
 use Rattle.tn_base.specs.Table.{buys_of}
-use Rattle.tn_base.specs.declared.fault.FaultKind.TheVariants.{SamePair}
+use Rattle.tn_said.specs.declared.fault.FaultKind.TheVariants.{SamePair}
 use Rattle.tn_base.specs.declared.side.Side.TheVariants.{Buy, Sell}
 use Rattle.tn_base.proofs.TableLemmas.{bought_from, side_from}
 use Rattle.tn_dealer.specs.declared.pair.Pair.{Pair}
-use Rattle.tn_dealer.specs.Pairs.{AreDifferent, IsNear, IsOwnPair, dealer_firm}
+use Rattle.tn_dealer.specs.Pairs.{AreUnrepeated, IsNear, IsOwnPair, dealer_firm}
 use Rattle.tn_dealer.proofs.RepeatLemmas.{few_different}
-use Rattle.tn_plain_data.specs.declared.ends.Ends.{Ends}
-use Rattle.tn_plain_data.specs.Limits.{most_own_trades}
-use Rattle.tn_plain_data.specs.declared.place.PlaceStep.{PlaceStep}
-use Rattle.tn_plain_data.specs.declared.place.PlaceStep.TheVariants.{Index}
+use Rattle.tn_model.specs.declared.ends.Ends.{Ends}
+use Rattle.tn_model.specs.Limits.{most_own_trades}
+use Rattle.tn_said.specs.declared.place.PlaceStep.{PlaceStep}
+use Rattle.tn_said.specs.declared.place.PlaceStep.TheVariants.{Index}
 use Rattle.tn_names.proofs.NameLemmas.{push_cases}
-use Rattle.tn_shape.specs.Reading.{each, holds}
-use Rattle.tn_shape.specs.Shapes.{number_at, optional_list_at}
+use Rattle.tn_read_shapes.specs.Reading.{each, holds}
+use Rattle.tn_read_shapes.specs.Shapes.{number_at, optional_list_at}
 use Rattle.tn_read_references.proofs.EntryLeads.{number_within}
-use Rattle.tn_shape.proofs.ShapeLeads.{number_leads}
-use Rattle.tn_shape.proofs.LeadLemmas.{Leads, leads_ok, leads_bind, leads_after, leads_each, leads_holds, leads_wanted, leads_as, leads_both}
+use Rattle.tn_read_shapes.proofs.ShapeLeads.{number_leads}
+use Rattle.tn_read_shapes.proofs.LeadLemmas.{Leads, leads_ok, leads_bind, leads_after, leads_each, leads_holds, leads_wanted, leads_as, leads_both}
 use Rattle.tn_read_references.specs.Ordered.{Listed, AreTrades, AreInOrder, sides_of}
 use Rattle.tn_read_references.specs.References.{position_on, own_position}
 use Rattle.tn_read_references.proofs.EndsLemmas.{side_at_position}
@@ -180,7 +180,7 @@ module _ (listed : Listed) (trades : AreTrades listed) (f : ℕ) where
   -- own pairs of which none is repeated
   pub record AreNew (pairs : List Pair) : Type 0 where
     pub own : All IsOwn pairs
-    pub different : AreDifferent pairs
+    pub different : AreUnrepeated pairs
 
   pub no_pairs : AreNew []
   no_pairs = record { own = All-nil IsOwn; different = λ j repeated. none-some repeated.pair repeated.pair_is }
@@ -189,7 +189,7 @@ module _ (listed : Listed) (trades : AreTrades listed) (f : ℕ) where
       → list_any (is_same_pair next) pairs ≡ false → AreNew (pairs ++ next ∷ [])
   one_more pairs next are own new = record { own = All-push IsOwn pairs next are.own own; different = different }
     where
-      different : AreDifferent (pairs ++ next ∷ [])
+      different : AreUnrepeated (pairs ++ next ∷ [])
       different j repeated = elim (push_cases pairs next repeated.earlier repeated.at repeated.earlier_is) [
         | inr last ↦ elim (push_cases pairs next repeated.pair j repeated.pair_is) [
           | inl there ↦

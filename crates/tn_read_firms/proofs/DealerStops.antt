@@ -4,17 +4,17 @@ use Rattle.std.specs.Prelude.{codes, not}
 use Rattle.std.specs.List.{list_any}
 use Rattle.serde_json.specs.Data.{Data}
 use Rattle.serde_json.specs.Find.{get}
-use Rattle.tn_base.specs.declared.fault.FaultKind.TheVariants.{Shape, SamePair}
+use Rattle.tn_said.specs.declared.fault.FaultKind.TheVariants.{Shape, SamePair}
 use Rattle.tn_base.specs.declared.side.Side.TheVariants.{Buy, Sell}
 use Rattle.tn_dealer.specs.declared.pair.Pair.{Pair}
 use Rattle.tn_dealer.specs.Pairs.{dealer_firm}
-use Rattle.tn_plain_data.specs.Limits.{most_own_trades}
-use Rattle.tn_plain_data.specs.declared.place.PlaceStep.{PlaceStep}
-use Rattle.tn_plain_data.specs.declared.place.PlaceStep.TheVariants.{Index}
-use Rattle.tn_shape.specs.Reading.{each, holds}
-use Rattle.tn_shape.specs.Shapes.{list_at, optional_list_at, number_at}
-use Rattle.tn_shape.proofs.StopLemmas.{IsPlain, IsPlainPlace, StopsPlainly, plain_holds, plain_wanted, stops_bind, stops_each, stops_ok}
-use Rattle.tn_shape.proofs.ShapeStops.{list_stops, optional_list_stops, number_stops}
+use Rattle.tn_model.specs.Limits.{most_own_trades}
+use Rattle.tn_said.specs.declared.place.PlaceStep.{PlaceStep}
+use Rattle.tn_said.specs.declared.place.PlaceStep.TheVariants.{Index}
+use Rattle.tn_read_shapes.specs.Reading.{each, holds}
+use Rattle.tn_read_shapes.specs.Shapes.{list_at, optional_list_at, number_at}
+use Rattle.tn_read_shapes.proofs.StopLemmas.{IsPlain, IsPlainPlace, StopsPlainly, plain_holds, plain_wanted, stops_bind, stops_each, stops_ok}
+use Rattle.tn_read_shapes.proofs.ShapeStops.{list_stops, optional_list_stops, number_stops}
 use Rattle.tn_read_references.specs.Ordered.{Listed, AreTrades, sides_of}
 use Rattle.tn_read_references.specs.References.{own_position}
 use Rattle.tn_read_references.proofs.ReferenceStops.{own_position_stops}

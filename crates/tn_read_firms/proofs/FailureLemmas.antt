@@ -7,16 +7,16 @@ use Rattle.std.proofs.Math.Path.{subst₂}
 use Rattle.tn_base.specs.Exchange.{NoneFails, Fails}
 use Rattle.tn_base.specs.Table.{buys_of}
 use Rattle.tn_base.proofs.ExchangeLemmas.{IsDecided}
-use Rattle.tn_law.specs.Close.{AreClose, distance}
-use Rattle.tn_law.proofs.ClosePairs.{close_pairs_decide}
+use Rattle.tn_firm_laws.specs.Close.{AreClose, distance}
+use Rattle.tn_firm_laws.proofs.ClosePairs.{close_pairs_decide}
 use Rattle.tn_exchange.specs.Rows.{TableRows, firm_of_table}
-use Rattle.tn_exchange.specs.TestOrder.{Triple, TripleFails, IsBefore, IsEarlier}
+use Rattle.tn_exchange.specs.TestOrder.{Triple, TripleFails, IsTestedBefore, IsEarlier}
 use Rattle.tn_exchange.specs.Verdicts.{IsFirstIn}
 use Rattle.tn_local.specs.First.{IsFirstTriple, IsFullIfLarge}
 use Rattle.tn_exchange.proofs.RowLemmas.{own_bundles}
 use Rattle.tn_exchange.proofs.DecisionLemmas.{fails_or_not}
 use Rattle.tn_exchange.proofs.TestLemmas.{wrong_at_own}
-use Rattle.tn_read_firms.specs.FirstFailure.{or_else, first_below, last_below, if_decided, failing, failing_at_pair, failing_at_looked, failing_from, first_failure, is_looked_at}
+use Rattle.tn_read_firms.specs.FirstFailure.{or_else, first_below, last_below, if_decided, failing, failing_at_pair, failing_at_looked, failing_from, first_failure, is_tested_pair}
 
 module _ {A : Type 0} (find : ℕ → Option A) where
   pub first_below-none : (n : ℕ) → ((k : ℕ) → k < n → find k ≡ None) → first_below find n ≡ None
@@ -127,19 +127,19 @@ if_decided-no (inr never') t never = refl
 module _ (table : TableRows) where
   -- the bundles of the triple are looked at
   abbrev pub IsLookedAt : Triple → Type 0
-  IsLookedAt t = is_looked_at table t.x t.y ≡ true
+  IsLookedAt t = is_tested_pair table t.x t.y ≡ true
 
-  looked_few : (x y : ℕ) → length table.sides ≤ 10 → is_looked_at table x y ≡ true
+  looked_few : (x y : ℕ) → length table.sides ≤ 10 → is_tested_pair table x y ≡ true
   looked_few x y few =
       or_left (nat_le (length table.sides) 10) (distance (buys_of table.sides) x y == 4)
       (le-leb (length table.sides) 10 few)
 
-  looked_close : (x y : ℕ) → AreClose (buys_of table.sides) x y → is_looked_at table x y ≡ true
+  looked_close : (x y : ℕ) → AreClose (buys_of table.sides) x y → is_tested_pair table x y ≡ true
   looked_close x y close =
       or_right (nat_le (length table.sides) 10) (distance (buys_of table.sides) x y == 4)
       (eq-eqb (distance (buys_of table.sides) x y) 4 close)
 
-  close_looked : (x y : ℕ) → 10 < length table.sides → is_looked_at table x y ≡ true
+  close_looked : (x y : ℕ) → 10 < length table.sides → is_tested_pair table x y ≡ true
       → AreClose (buys_of table.sides) x y
   close_looked x y large looked =
       elim (or_cases (nat_le (length table.sides) 10) (distance (buys_of table.sides) x y == 4) looked) [
@@ -193,15 +193,15 @@ module _ (table : TableRows) where
       rw (first_below-none (λ i. failing table x y (Some i)) (length table.sides)
       (λ i h. failing-none x y (Some i) (never (Some i)))) (failing-none x y None (never None))
 
-  looked-none : (x y : ℕ) → (is_looked_at table x y ≡ true → (at : Option ℕ)
+  looked-none : (x y : ℕ) → (is_tested_pair table x y ≡ true → (at : Option ℕ)
       → TripleFails (firm_of_table table) (record { x = x; y = y; at = at }) → ⊥) → failing_at_looked table x y ≡ None
-  looked-none x y never = by_test (is_looked_at table x y) refl
+  looked-none x y never = by_test (is_tested_pair table x y) refl
     where
-      by_test : (b : Bool) → is_looked_at table x y ≡ b → (if b then failing_at_pair table x y else None) ≡ None
+      by_test : (b : Bool) → is_tested_pair table x y ≡ b → (if b then failing_at_pair table x y else None) ≡ None
       by_test true looked = pair-none x y (never looked)
       by_test false other = refl
 
-  looked-is : (x y : ℕ) → is_looked_at table x y ≡ true → failing_at_looked table x y ≡ failing_at_pair table x y
+  looked-is : (x y : ℕ) → is_tested_pair table x y ≡ true → failing_at_looked table x y ≡ failing_at_pair table x y
   looked-is x y looked = ap (λ b. if b then failing_at_pair table x y else None) looked
 
   pub none : NoneFails (firm_of_table table) → first_failure table ≡ None
@@ -272,7 +272,7 @@ module _ (table : TableRows) where
           never_fails x y (Some i) (first_below-all (λ i. failing table x y (Some i)) (length table.sides) front_is i
           within) f
 
-  looked-never : (x y : ℕ) → is_looked_at table x y ≡ true → failing_at_looked table x y ≡ None → (at : Option ℕ)
+  looked-never : (x y : ℕ) → is_tested_pair table x y ≡ true → failing_at_looked table x y ≡ None → (at : Option ℕ)
       → TripleFails (firm_of_table table) (record { x = x; y = y; at = at }) → ⊥
   looked-never x y looked none = pair-never x y (sym (looked-is table x y looked) ∙ none)
 
@@ -298,10 +298,10 @@ module _ (table : TableRows) where
     pub at : Option ℕ
     pub is : record { x = x; y = y; at = at } ≡ t
     pub fails : Fails (firm_of_table table) x y at
-    pub before : (earlier : Option ℕ) → IsBefore earlier at → Fails (firm_of_table table) x y earlier → ⊥
+    pub before : (earlier : Option ℕ) → IsTestedBefore earlier at → Fails (firm_of_table table) x y earlier → ⊥
 
   none_before_last : (x y : ℕ) → ((i : ℕ) → i < length table.sides → failing table x y (Some i) ≡ None)
-      → (earlier : Option ℕ) → IsBefore earlier None → Fails (firm_of_table table) x y earlier → ⊥
+      → (earlier : Option ℕ) → IsTestedBefore earlier None → Fails (firm_of_table table) x y earlier → ⊥
   none_before_last x y none (Some i) before f =
       let within =
       wrong_at_own (firm_of_table table) x y _ i (own_bundles table x f.first f.first_is)
@@ -310,7 +310,7 @@ module _ (table : TableRows) where
   none_before_last x y none None before f = before
 
   none_before : (x y k : ℕ) → ((j : ℕ) → j < k → failing table x y (Some j) ≡ None) → (earlier : Option ℕ)
-      → IsBefore earlier (Some k) → Fails (firm_of_table table) x y earlier → ⊥
+      → IsTestedBefore earlier (Some k) → Fails (firm_of_table table) x y earlier → ⊥
   none_before x y k none (Some j) before f = never_fails x y (Some j) (none j before) f
   none_before x y k none None before f = before
 
@@ -336,7 +336,7 @@ module _ (table : TableRows) where
   none_earlier : (x y : ℕ) (at : Option ℕ)
       → ((j : ℕ) → x < j → j < 2 ^ length table.sides → failing_from table j ≡ None)
       → ((j : ℕ) → j < y → failing_at_looked table x j ≡ None)
-      → ((earlier : Option ℕ) → IsBefore earlier at → Fails (firm_of_table table) x y earlier → ⊥)
+      → ((earlier : Option ℕ) → IsTestedBefore earlier at → Fails (firm_of_table table) x y earlier → ⊥)
       → (s : Triple) → IsLookedAt table s → IsEarlier s (record { x = x; y = y; at = at })
       → TripleFails (firm_of_table table) s → ⊥
   none_earlier x y at above below before s looked (inl greater) f =
@@ -348,12 +348,12 @@ module _ (table : TableRows) where
   none_earlier x y at above below before s looked (inr (same_x, inr (same_y, earlier))) f =
       before s.at earlier (subst₂ (λ (a b : ℕ). Fails (firm_of_table table) a b s.at) same_x same_y f)
 
-  looked_and_failing : (x y : ℕ) (t : Triple) → failing_at_looked table x y ≡ Some t → (is_looked_at table x y ≡ true)
+  looked_and_failing : (x y : ℕ) (t : Triple) → failing_at_looked table x y ≡ Some t → (is_tested_pair table x y ≡ true)
       × (failing_at_pair table x y ≡ Some t)
-  looked_and_failing x y t is = by_test (is_looked_at table x y) refl is
+  looked_and_failing x y t is = by_test (is_tested_pair table x y) refl is
     where
-      by_test : (b : Bool) → is_looked_at table x y ≡ b → (if b then failing_at_pair table x y else None) ≡ Some t
-          → (is_looked_at table x y ≡ true) × (failing_at_pair table x y ≡ Some t)
+      by_test : (b : Bool) → is_tested_pair table x y ≡ b → (if b then failing_at_pair table x y else None) ≡ Some t
+          → (is_tested_pair table x y ≡ true) × (failing_at_pair table x y ≡ Some t)
       by_test true looked is = (looked, is)
       by_test false other is = absurd (none-some t is)
 

@@ -6,31 +6,31 @@ use Rattle.serde_json.specs.Data.{Data, Items}
 use Rattle.serde_json.specs.Events.{items_len}
 use Rattle.tn_base.specs.Firm.{Firm}
 use Rattle.tn_base.specs.Table.{buys_of}
-use Rattle.tn_base.specs.declared.fault.FaultKind.TheVariants.{Limit}
-use Rattle.tn_plain_data.specs.Limits.{most_own_trades}
-use Rattle.tn_plain_data.specs.Network.{IsNetwork, own}
+use Rattle.tn_said.specs.declared.fault.FaultKind.TheVariants.{Limit}
+use Rattle.tn_model.specs.Limits.{most_own_trades}
+use Rattle.tn_model.specs.Network.{IsNetwork, own}
 use Rattle.tn_base.specs.Exchange.{MeetsExchange}
 use Rattle.tn_base.proofs.ExchangeLemmas.{exchange_from_none_fails}
 use Rattle.tn_exchange.specs.Rows.{TableRows, firm_of_table}
 use Rattle.tn_exchange.specs.TestOrder.{Triple}
 use Rattle.tn_exchange.proofs.RowLemmas.{own_bundles}
 use Rattle.tn_local.specs.First.{IsFullIfLarge}
-use Rattle.tn_plain_data.specs.declared.ends.Ends.{Ends}
-use Rattle.tn_plain_data.specs.declared.limits.Limits.{Limits}
+use Rattle.tn_model.specs.declared.ends.Ends.{Ends}
+use Rattle.tn_model.specs.declared.limits.Limits.{Limits}
 use Rattle.tn_market.specs.Valued.{IsWorthAtMost}
-use Rattle.tn_shape.specs.Reading.{each, holds}
+use Rattle.tn_read_shapes.specs.Reading.{each, holds}
 use Rattle.tn_read_references.specs.Ordered.{Listed, AreInOrder, sides_of, AreTrades}
-use Rattle.tn_shape.specs.declared.members.FirmKind.{FirmKind}
-use Rattle.tn_shape.specs.declared.members.FirmKind.TheVariants.{Table, Laminar, Middleman, Dealer}
-use Rattle.tn_shape.specs.declared.members.ObjectKind.TheVariants.{Firm as FirmObject}
-use Rattle.tn_shape.specs.Shapes.{object_of}
+use Rattle.tn_read_shapes.specs.declared.members.FirmKind.{FirmKind}
+use Rattle.tn_read_shapes.specs.declared.members.FirmKind.TheVariants.{Table, Laminar, Middleman, Dealer}
+use Rattle.tn_read_shapes.specs.declared.members.ObjectKind.TheVariants.{Firm as FirmObject}
+use Rattle.tn_read_shapes.specs.Shapes.{object_of}
 use Rattle.tn_read_references.specs.References.{firm_place}
-use Rattle.tn_read_firms.specs.Kinds.{most_own, kind_of, frame_of}
+use Rattle.tn_read_firms.specs.Kinds.{most_own_of_kind, firm_kind_of, firm_frame_of}
 use Rattle.tn_read_firms.specs.Tables.{table_of}
 use Rattle.tn_read_firms.specs.Laminars.{laminar_of}
 use Rattle.tn_read_firms.specs.Middlemen.{middle_of}
 use Rattle.tn_read_firms.specs.Dealers.{dealer_of}
-use Rattle.tn_read_firms.specs.Firms.{unless_failing, exchange_of, tested_firm, firm_by, firm_of, one_firm}
+use Rattle.tn_read_firms.specs.Firms.{unless_failing, exchange_of, tested_firm, firm_by, document_firm, one_firm}
 use Rattle.tn_read_firms.specs.FirstFailure.{first_failure}
 use Rattle.tn_read_firms.specs.Laws.{IsTableFirm, IsLaminarFirm, IsMiddlemanFirm, IsDealerFirm, IsListedFirm, table as table_is, laminar, middleman, dealer}
 use Rattle.tn_names.proofs.NameLemmas.{push_cases}
@@ -40,8 +40,8 @@ use Rattle.tn_read_firms.proofs.TableLeads.{IsTableOf, table_leads}
 use Rattle.tn_read_firms.proofs.LaminarLeads.{laminar_leads}
 use Rattle.tn_read_firms.proofs.MiddleLeads.{middle_leads}
 use Rattle.tn_read_firms.proofs.DealerLeads.{dealer_leads}
-use Rattle.tn_plain_data.proofs.InOrderNetworks.{HaveSides, network, own_ascends, there}
-use Rattle.tn_shape.proofs.LeadLemmas.{Leads, leads_ok, leads_bind, leads_after, leads_each, leads_count, leads_holds, leads_as, le_from_test}
+use Rattle.tn_model.proofs.InOrderNetworks.{HaveSides, network, own_ascends, there}
+use Rattle.tn_read_shapes.proofs.LeadLemmas.{Leads, leads_ok, leads_bind, leads_after, leads_each, leads_count, leads_holds, leads_as, le_from_test}
 
 unless_failing_leads : (trades : List Ends) (f count : ℕ) (found : Option Triple)
     → Leads (λ _. found ≡ None) (unless_failing trades f count found)
@@ -97,7 +97,7 @@ module _ (tested : Bool) (listed : Listed) (trades : AreTrades listed) where
   abbrev IsFirmAt : ℕ → Firm → Type 0
   IsFirmAt f firm = IsFirm tested listed.limits listed.ends f firm
 
-  kind_leads : (f : ℕ) (kind : FirmKind) (firm : Data) → length (sides_of listed.ends f) ≤ most_own listed.limits kind
+  kind_leads : (f : ℕ) (kind : FirmKind) (firm : Data) → length (sides_of listed.ends f) ≤ most_own_of_kind listed.limits kind
       → Leads (IsFirmAt f) (firm_by tested listed f kind firm)
   unfolding firm_by
   kind_leads f Table firm few =
@@ -119,21 +119,21 @@ module _ (tested : Bool) (listed : Listed) (trades : AreTrades listed) where
       (dealer_leads listed trades f firm few)
 
   pub frame_leads : (f : ℕ) (kind : FirmKind) (firm : Data)
-      → Leads (λ _. length (sides_of listed.ends f) ≤ most_own listed.limits kind) (frame_of listed f kind firm)
-  unfolding frame_of
+      → Leads (λ _. length (sides_of listed.ends f) ≤ most_own_of_kind listed.limits kind) (firm_frame_of listed f kind firm)
+  unfolding firm_frame_of
   frame_leads f kind firm =
       let count = length (sides_of listed.ends f) in
-      let most = most_own listed.limits kind in
+      let most = most_own_of_kind listed.limits kind in
       leads_after _ (object_of (FirmObject kind) (firm_place f) (Some firm)) _ (λ object.
       leads_as (λ _. nat_le count most ≡ true) _ (holds Limit (firm_place f) (nat_le count most))
       (λ u few. le_from_test count most few) (leads_holds Limit (firm_place f) (nat_le count most)))
 
-  firm_leads : (f : ℕ) (firm : Data) → Leads (IsFirmAt f) (firm_of tested listed f firm)
-  unfolding firm_of
+  firm_leads : (f : ℕ) (firm : Data) → Leads (IsFirmAt f) (document_firm tested listed f firm)
+  unfolding document_firm
   firm_leads f firm =
-      leads_after (IsFirmAt f) (kind_of f firm) _ (λ kind.
-      leads_bind (λ _. length (sides_of listed.ends f) ≤ most_own listed.limits kind) (IsFirmAt f)
-      (frame_of listed f kind firm) _ (frame_leads f kind firm) (λ u few.
+      leads_after (IsFirmAt f) (firm_kind_of f firm) _ (λ kind.
+      leads_bind (λ _. length (sides_of listed.ends f) ≤ most_own_of_kind listed.limits kind) (IsFirmAt f)
+      (firm_frame_of listed f kind firm) _ (frame_leads f kind firm) (λ u few.
       kind_leads f kind firm few))
 
   abbrev pub AreFirms : List Firm → Type 0
@@ -143,7 +143,7 @@ module _ (tested : Bool) (listed : Listed) (trades : AreTrades listed) where
       → Leads AreFirms (one_firm tested listed firms firm)
   unfolding one_firm
   one_firm_leads firms firm are =
-      leads_bind (IsFirmAt (length firms)) AreFirms (firm_of tested listed (length firms) firm) _
+      leads_bind (IsFirmAt (length firms)) AreFirms (document_firm tested listed (length firms) firm) _
       (firm_leads (length firms) firm) (λ next is.
       leads_ok AreFirms (firms ++ next ∷ []) (λ f other at. elim (push_cases firms next other f at) [
         | inl h ↦ are f other h
@@ -158,7 +158,7 @@ module _ (tested : Bool) (listed : Listed) (trades : AreTrades listed) where
       → Leads (λ next. length next ≡ length firms + 1) (one_firm tested listed firms firm)
   unfolding one_firm
   one_firm_count firms firm =
-      leads_after _ (firm_of tested listed (length firms) firm) _ (λ next.
+      leads_after _ (document_firm tested listed (length firms) firm) _ (λ next.
       leads_ok (λ more. length more ≡ length firms + 1) (firms ++ next ∷ []) (length-append firms (next ∷ [])))
 
   pub firms_are_counted : (firms : Items)

@@ -10,52 +10,52 @@ use Rattle.serde_json.specs.Events.{items_len}
 use Rattle.serde_json.specs.Find.{get}
 use Rattle.tn_base.specs.Firm.{Firm}
 use Rattle.tn_base.specs.declared.side.Side.{Side}
-use Rattle.tn_base.specs.declared.fault.FaultKind.TheVariants.{Shape, Limit, SameBundle, NoEmpty, NotConcave, NotLaminar}
-use Rattle.tn_law.specs.Nested.{listed_from}
+use Rattle.tn_said.specs.declared.fault.FaultKind.TheVariants.{Shape, Limit, SameBundle, NoEmpty, NotConcave, NotLaminar}
+use Rattle.tn_firm_laws.specs.Nested.{listed_from}
 use Rattle.tn_exchange.specs.Rows.{TableRows, firm_of_table, row_at, with_row, without_rows}
 use Rattle.tn_exchange.specs.TestOrder.{Triple}
 use Rattle.tn_exchange.proofs.RowLemmas.{own_bundles}
 use Rattle.tn_laminar.specs.declared.set.LaminarSet.{LaminarSet}
 use Rattle.tn_laminar.specs.Sum.{HasNumbersWithin, laminar_firm}
 use Rattle.tn_middle.specs.Pairs.{middle_firm}
-use Rattle.tn_plain_data.specs.declared.ends.Ends.{Ends}
-use Rattle.tn_plain_data.specs.Limits.{AreLimits, most_firms, most_own_of_table, most_own_trades, most_sets, most_values}
-use Rattle.tn_plain_data.specs.declared.limits.Limits.{Limits}
-use Rattle.tn_plain_data.specs.declared.place.PlaceStep.{PlaceStep}
-use Rattle.tn_plain_data.specs.declared.place.PlaceStep.TheVariants.{Index, Key}
-use Rattle.tn_plain_data.specs.declared.place.Word.TheVariants.{Trades, Sets, From, Values, Keep, Kind, Rows as RowsWord}
-use Rattle.tn_plain_data.specs.declared.said.Fault.{Fault}
-use Rattle.tn_plain_data.specs.Network.{own}
+use Rattle.tn_model.specs.declared.ends.Ends.{Ends}
+use Rattle.tn_model.specs.Limits.{AreLimits, most_firms, most_own_of_table, most_own_trades, most_sets, most_values}
+use Rattle.tn_model.specs.declared.limits.Limits.{Limits}
+use Rattle.tn_said.specs.declared.place.PlaceStep.{PlaceStep}
+use Rattle.tn_said.specs.declared.place.PlaceStep.TheVariants.{Index, Key}
+use Rattle.tn_said.specs.declared.place.Word.TheVariants.{Trades, Sets, From, Values, Keep, Kind, Rows as RowsWord}
+use Rattle.tn_said.specs.declared.said.Fault.{Fault}
+use Rattle.tn_model.specs.Network.{own}
 use Rattle.tn_names.specs.Named.{IsAscendingTriple, IsSayableFault}
-use Rattle.tn_plain_data.proofs.NetworkLemmas.{ascending_list}
-use Rattle.tn_shape.specs.declared.members.FirmKind.{FirmKind}
-use Rattle.tn_shape.specs.declared.members.FirmKind.TheVariants.{Table, Laminar, Middleman, Dealer}
-use Rattle.tn_shape.specs.declared.members.ObjectKind.TheVariants.{Firm as FirmObject, LaminarSet as LaminarSetObject}
-use Rattle.tn_shape.specs.Reading.{◌>>=◌, fault, each, holds}
-use Rattle.tn_shape.specs.Shapes.{text_at, list_at, optional_list_at, few_at, object_of, two_at, whole_at, number_at}
+use Rattle.tn_model.proofs.NetworkLemmas.{ascending_list}
+use Rattle.tn_read_shapes.specs.declared.members.FirmKind.{FirmKind}
+use Rattle.tn_read_shapes.specs.declared.members.FirmKind.TheVariants.{Table, Laminar, Middleman, Dealer}
+use Rattle.tn_read_shapes.specs.declared.members.ObjectKind.TheVariants.{Firm as FirmObject, LaminarSet as LaminarSetObject}
+use Rattle.tn_read_shapes.specs.Reading.{◌>>=◌, fault, each, holds}
+use Rattle.tn_read_shapes.specs.Shapes.{text_at, list_at, optional_list_at, few_at, object_of, two_at, whole_at, number_at}
 use Rattle.tn_read_references.specs.Ordered.{Listed, sides_of, AreTrades}
 use Rattle.tn_read_references.specs.References.{bundle_at, firm_place}
-use Rattle.tn_read_firms.specs.Kinds.{kind_named, kind_of, most_own, frame_of}
-use Rattle.tn_read_firms.specs.Tables.{Rows, filled, full_if_large, has_each_row, row_place, row_of, one_row, rows_of, table_of}
+use Rattle.tn_read_firms.specs.Kinds.{kind_named, firm_kind_of, most_own_of_kind, firm_frame_of}
+use Rattle.tn_read_firms.specs.Tables.{RowsRead, filled_count, full_if_large, has_each_row, row_place, table_row_of, one_row, rows_of, table_of}
 use Rattle.tn_read_firms.specs.OwnNumbers.{no_numbers, own_numbers}
-use Rattle.tn_read_firms.specs.Laminars.{amounts_list, bends, check_set, check_sets, checked_laminar, crosses, first_bend, laminar_of, low_at, one_set, one_value, set_of, set_place, sets_at, unless_bent, values_at}
+use Rattle.tn_read_firms.specs.Laminars.{amounts_list, bends, check_set, check_sets, checked_laminar, crosses, first_bend, laminar_of, laminar_set_of, low_at, one_set, one_value, set_place, sets_at, unless_bent, values_at}
 use Rattle.tn_read_firms.specs.Dealers.{dealer_of}
 use Rattle.tn_read_firms.specs.Middlemen.{costs_list, gains_list, keep_at, middle_of}
-use Rattle.tn_read_firms.specs.Firms.{shown_of, failure_of, unless_failing, exchange_of, tested_firm, firm_by, firm_of, one_firm}
+use Rattle.tn_read_firms.specs.Firms.{shown_of, exchange_fault, unless_failing, exchange_of, tested_firm, firm_by, document_firm, one_firm}
 use Rattle.tn_read_firms.specs.FirstFailure.{first_failure}
 use Rattle.tn_read_firms.proofs.FailureLemmas.{first_looked}
-use Rattle.tn_plain_data.proofs.InOrderNetworks.{own_ascends, own_within}
+use Rattle.tn_model.proofs.InOrderNetworks.{own_ascends, own_within}
 use Rattle.tn_read_firms.proofs.ShownLemmas.{own_position_of, triple_named}
 use Rattle.tn_read_firms.proofs.RowLemmas.{filled-set, filled-none, filled_le}
-use Rattle.tn_shape.proofs.LeadLemmas.{Leads, le_from_test, leads_as, leads_bind, leads_both, leads_holds, leads_ok}
-use Rattle.tn_shape.proofs.ShapeLeads.{few_lead}
+use Rattle.tn_read_shapes.proofs.LeadLemmas.{Leads, le_from_test, leads_as, leads_bind, leads_both, leads_holds, leads_ok}
+use Rattle.tn_read_shapes.proofs.ShapeLeads.{few_lead}
 use Rattle.tn_read_firms.proofs.TableLeads.{AreRows, IsOwnRow, IsTableOf, none_from, one_row_leads, row_leads, rows_start, table_leads}
 use Rattle.tn_read_firms.proofs.LaminarLeads.{AreFewSets, one_set_counts, sets_lead, value_counts}
 use Rattle.tn_read_firms.proofs.FirmLeads.{frame_leads, one_firm_count}
 use Rattle.tn_read_firms.proofs.RoomLemmas.{sets_room}
-use Rattle.tn_shape.proofs.StopLemmas.{IsPlain, IsPlainPlace, Stops, StopsPlainly, plain_fault, plain_holds, plain_wanted, stops_after, stops_bind, stops_each_few, stops_each, stops_err, stops_ok}
+use Rattle.tn_read_shapes.proofs.StopLemmas.{IsPlain, IsPlainPlace, Stops, StopsPlainly, plain_fault, plain_holds, plain_wanted, stops_after, stops_bind, stops_each_few, stops_each, stops_err, stops_ok}
 use Rattle.tn_read_references.proofs.ToldLemmas.{IsTold, named_place, short_place, told_from_plain}
-use Rattle.tn_shape.proofs.ShapeStops.{text_stops, list_stops, optional_list_stops, few_stops, object_stops, two_stops, whole_stops, number_stops}
+use Rattle.tn_read_shapes.proofs.ShapeStops.{text_stops, list_stops, optional_list_stops, few_stops, object_stops, two_stops, whole_stops, number_stops}
 use Rattle.tn_read_references.proofs.ReferenceStops.{bundle_stops}
 use Rattle.tn_read_firms.proofs.OwnLemmas.{own_numbers_stop}
 use Rattle.tn_read_firms.proofs.DealerStops.{dealer_stops}
@@ -67,8 +67,8 @@ pub record IsFewOwn (trades : List Ends) (f : ℕ) : Type 0 where
 
 -- tables
 module _ (listed : Listed) (trades : AreTrades listed) (f : ℕ) (firm_few : IsFewOwn listed.ends f) where
-  row_stops : (r : ℕ) (row : Data) → r ≤ 16384 → StopsPlainly (row_of listed f r row)
-  unfolding row_of
+  row_stops : (r : ℕ) (row : Data) → r ≤ 16384 → StopsPlainly (table_row_of listed f r row)
+  unfolding table_row_of
   row_stops r row few =
       stops_bind IsPlain (two_at (row_place f r) row) _ (two_stops (row_place f r) (
         tt,
@@ -85,10 +85,10 @@ module _ (listed : Listed) (trades : AreTrades listed) (f : ℕ) (firm_few : IsF
       stops_ok IsPlain (bundle, amount))))
 
   -- as many rows were read as bundles have one
-  abbrev pub AreCounted : Rows → Type 0
-  AreCounted rows = AreRows listed trades f rows × (rows.count ≡ filled rows.table.rows)
+  abbrev pub AreCounted : RowsRead → Type 0
+  AreCounted rows = AreRows listed trades f rows × (rows.count ≡ filled_count rows.table.rows)
 
-  few_rows : (rows : Rows) → AreCounted rows → rows.count ≤ 16384
+  few_rows : (rows : RowsRead) → AreCounted rows → rows.count ≤ 16384
   few_rows rows counted =
       let most = filled_le rows.table.rows in
       let places = counted.0.within.places in
@@ -98,11 +98,11 @@ module _ (listed : Listed) (trades : AreTrades listed) (f : ℕ) (firm_few : IsF
       let same = counted.1 in
       omega (arith, most, places, few, same)
 
-  one_row_stops : (rows : Rows) (row : Data) → AreCounted rows → StopsPlainly (one_row listed f rows row)
+  one_row_stops : (rows : RowsRead) (row : Data) → AreCounted rows → StopsPlainly (one_row listed f rows row)
   unfolding one_row
   one_row_stops rows row counted =
       let few : rows.count ≤ 16384 = few_rows rows counted in
-      stops_bind IsPlain (row_of listed f rows.count row) _ (row_stops rows.count row few) (λ next.
+      stops_bind IsPlain (table_row_of listed f rows.count row) _ (row_stops rows.count row few) (λ next.
       stops_bind IsPlain (holds SameBundle (row_place f rows.count) (is_none (row_at rows.table.rows next.0))) _
       (plain_holds SameBundle (row_place f rows.count) (is_none (row_at rows.table.rows next.0)) refl (
         tt,
@@ -110,16 +110,16 @@ module _ (listed : Listed) (trades : AreTrades listed) (f : ℕ) (firm_few : IsF
       )) (λ new.
       stops_ok IsPlain (record { count = rows.count + 1; table = with_row rows.table next.0 next.1 })))
 
-  one_row_counts : (rows : Rows) (row : Data) → AreCounted rows
-      → Leads (λ next. next.count ≡ filled next.table.rows) (one_row listed f rows row)
+  one_row_counts : (rows : RowsRead) (row : Data) → AreCounted rows
+      → Leads (λ next. next.count ≡ filled_count next.table.rows) (one_row listed f rows row)
   unfolding one_row
   one_row_counts rows row counted =
-      leads_bind (IsOwnRow listed trades f) (λ next. next.count ≡ filled next.table.rows)
-      (row_of listed f rows.count row) _ (row_leads listed trades f rows.count row) (λ next is_own.
-      leads_bind (λ _. is_none (row_at rows.table.rows next.0) ≡ true) (λ next. next.count ≡ filled next.table.rows)
+      leads_bind (IsOwnRow listed trades f) (λ next. next.count ≡ filled_count next.table.rows)
+      (table_row_of listed f rows.count row) _ (row_leads listed trades f rows.count row) (λ next is_own.
+      leads_bind (λ _. is_none (row_at rows.table.rows next.0) ≡ true) (λ next. next.count ≡ filled_count next.table.rows)
       (holds SameBundle (row_place f rows.count) (is_none (row_at rows.table.rows next.0))) _
       (leads_holds SameBundle (row_place f rows.count) (is_none (row_at rows.table.rows next.0))) (λ u new.
-      leads_ok (λ next. next.count ≡ filled next.table.rows) (record {
+      leads_ok (λ next. next.count ≡ filled_count next.table.rows) (record {
         count = rows.count + 1;
         table =
             with_row rows.table next.0 next.1;
@@ -132,7 +132,7 @@ module _ (listed : Listed) (trades : AreTrades listed) (f : ℕ) (firm_few : IsF
           (sym counted.0.sides) own)
 
       one_more : (x : ℕ) (amount : ℤ) → x < length rows.table.rows → row_at rows.table.rows x ≡ None
-          → rows.count + 1 ≡ filled (slice_set rows.table.rows x (Some amount))
+          → rows.count + 1 ≡ filled_count (slice_set rows.table.rows x (Some amount))
       one_more x amount below none = let more = filled-set rows.table.rows x amount below none in let same = counted.1
           in omega (arith, more, same)
 
@@ -256,8 +256,8 @@ checked_stops f sides amounts sets near few numbered =
     (λ met. stops_ok IsPlain (laminar_firm sides amounts sets))
 
 module _ (listed : Listed) (trades : AreTrades listed) (f : ℕ) (firm_few : IsFewOwn listed.ends f) where
-  set_stops : (s : ℕ) (set : Data) → s ≤ 16384 → StopsPlainly (set_of listed f s set)
-  unfolding set_of
+  set_stops : (s : ℕ) (set : Data) → s ≤ 16384 → StopsPlainly (laminar_set_of listed f s set)
+  unfolding laminar_set_of
   set_stops s set early =
       stops_bind IsPlain (object_of LaminarSetObject (set_place f s) (Some set)) _
       (object_stops (set_place f s) (tt, (firm_few.number, (tt, (early, tt)))) LaminarSetObject (Some set))
@@ -280,7 +280,7 @@ module _ (listed : Listed) (trades : AreTrades listed) (f : ℕ) (firm_few : IsF
       → StopsPlainly (one_set listed f sets set)
   unfolding one_set
   one_set_stops sets set few =
-      stops_bind IsPlain (set_of listed f (length sets) set) _ (set_stops (length sets) set (omega (arith, few)))
+      stops_bind IsPlain (laminar_set_of listed f (length sets) set) _ (set_stops (length sets) set (omega (arith, few)))
       (λ next. stops_ok IsPlain (sets ++ next ∷ []))
 
   sets_stop : (value : Option Data) → StopsPlainly (sets_at listed f value)
@@ -352,20 +352,20 @@ middle_stops listed trades f few firm =
     stops_ok IsPlain (middle_firm (sides_of listed.ends f) numbers keep))))
 
 -- the kind of a firm
-kind_stops : (f : ℕ) (firm : Data) → f ≤ 16384 → StopsPlainly (kind_of f firm)
-unfolding kind_of
+kind_stops : (f : ℕ) (firm : Data) → f ≤ 16384 → StopsPlainly (firm_kind_of f firm)
+unfolding firm_kind_of
 kind_stops f firm near =
     stops_bind IsPlain (text_at (firm_place f ++ Key Kind ∷ []) (get (codes "kind") firm)) _
     (text_stops (firm_place f ++ Key Kind ∷ []) (tt, (near, (tt, tt))) (get (codes "kind") firm)) (λ kind.
     plain_wanted Shape (firm_place f ++ Key Kind ∷ []) (kind_named kind) refl (tt, (near, (tt, tt))))
 
 frame_stops : (listed : Listed) (f : ℕ) (kind : FirmKind) (firm : Data) → f ≤ 16384
-    → StopsPlainly (frame_of listed f kind firm)
-unfolding frame_of
+    → StopsPlainly (firm_frame_of listed f kind firm)
+unfolding firm_frame_of
 frame_stops listed f kind firm near =
     stops_bind IsPlain (object_of (FirmObject kind) (firm_place f) (Some firm)) _
     (object_stops (firm_place f) (tt, (near, tt)) (FirmObject kind) (Some firm)) (λ object.
-    plain_holds Limit (firm_place f) (nat_le (length (sides_of listed.ends f)) (most_own listed.limits kind)) refl (
+    plain_holds Limit (firm_place f) (nat_le (length (sides_of listed.ends f)) (most_own_of_kind listed.limits kind)) refl (
       tt,
       (near, tt),
     ))
@@ -383,7 +383,7 @@ module _ (listed : Listed) (trades : AreTrades listed) where
       (own_within (length listed.names.firms) f k listed.ends trades.order below)
 
   failure_told : (f : ℕ) (table : TableRows) (t : Triple) → f ≤ 16384 → table.sides ≡ sides_of listed.ends f
-      → first_failure table ≡ Some t → IsToldHere (failure_of listed.ends f (length table.sides) t)
+      → first_failure table ≡ Some t → IsToldHere (exchange_fault listed.ends f (length table.sides) t)
   failure_told f table t near sides found = record {
     sayable = sayable;
     short =
@@ -404,7 +404,7 @@ module _ (listed : Listed) (trades : AreTrades listed) where
             ascending_list listed.ends f (length table.sides) t.y ascend;
       }
 
-      sayable : IsSayableFault listed.names.trades (failure_of listed.ends f (length table.sides) t)
+      sayable : IsSayableFault listed.names.trades (exchange_fault listed.ends f (length table.sides) t)
       sayable = record {
         place = named_place listed.names.trades (firm_place f) (tt, (near, tt));
         triple = triple_named listed.names.trades listed.ends f (length table.sides) t
@@ -422,7 +422,7 @@ module _ (listed : Listed) (trades : AreTrades listed) where
           → Stops IsToldHere (unless_failing listed.ends f (length table.sides) found)
       by_found None is = stops_ok IsToldHere tt
       by_found (Some t) is =
-          stops_err IsToldHere (failure_of listed.ends f (length table.sides) t) (failure_told f table t near sides is)
+          stops_err IsToldHere (exchange_fault listed.ends f (length table.sides) t) (failure_told f table t near sides is)
 
   tested_stops : (tested : Bool) (f : ℕ) (table : TableRows) → f ≤ 16384 → table.sides ≡ sides_of listed.ends f
       → Stops IsToldHere (if tested then exchange_of listed.ends f table else Ok tt)
@@ -437,7 +437,7 @@ module _ (listed : Listed) (trades : AreTrades listed) where
       else Ok tt) _ (tested_stops tested f table near sides) (λ met. stops_ok IsToldHere (firm_of_table table))
 
   firm_by_stops : (tested : Bool) (f : ℕ) (kind : FirmKind) (firm : Data) → f ≤ 16384
-      → length (sides_of listed.ends f) ≤ most_own listed.limits kind
+      → length (sides_of listed.ends f) ≤ most_own_of_kind listed.limits kind
       → Stops IsToldHere (firm_by tested listed f kind firm)
   unfolding firm_by
   firm_by_stops tested f Table firm near few =
@@ -456,14 +456,14 @@ module _ (listed : Listed) (trades : AreTrades listed) where
       told_from_plain listed.names.trades (dealer_of listed f firm)
       (dealer_stops listed trades f near (omega (arith, few, trades.limits.own)) firm)
 
-  firm_stops : (tested : Bool) (f : ℕ) (firm : Data) → f ≤ 16384 → Stops IsToldHere (firm_of tested listed f firm)
-  unfolding firm_of
+  firm_stops : (tested : Bool) (f : ℕ) (firm : Data) → f ≤ 16384 → Stops IsToldHere (document_firm tested listed f firm)
+  unfolding document_firm
   firm_stops tested f firm near =
-      stops_bind IsToldHere (kind_of f firm) _ (told_from_plain listed.names.trades (kind_of f firm)
+      stops_bind IsToldHere (firm_kind_of f firm) _ (told_from_plain listed.names.trades (firm_kind_of f firm)
       (kind_stops f firm near)) (λ kind.
-      stops_after IsToldHere (λ _. length (sides_of listed.ends f) ≤ most_own listed.limits kind)
-      (frame_of listed f kind firm) _ (frame_leads tested listed trades f kind firm)
-      (told_from_plain listed.names.trades (frame_of listed f kind firm) (frame_stops listed f kind firm near))
+      stops_after IsToldHere (λ _. length (sides_of listed.ends f) ≤ most_own_of_kind listed.limits kind)
+      (firm_frame_of listed f kind firm) _ (frame_leads tested listed trades f kind firm)
+      (told_from_plain listed.names.trades (firm_frame_of listed f kind firm) (frame_stops listed f kind firm near))
       (λ u few.
       firm_by_stops tested f kind firm near few))
 
@@ -471,7 +471,7 @@ module _ (listed : Listed) (trades : AreTrades listed) where
       → Stops IsToldHere (one_firm tested listed firms firm)
   unfolding one_firm
   one_firm_stops tested firms firm few =
-      stops_bind IsToldHere (firm_of tested listed (length firms) firm) _
+      stops_bind IsToldHere (document_firm tested listed (length firms) firm) _
       (firm_stops tested (length firms) firm (omega (arith, few))) (λ next. stops_ok IsToldHere (firms ++ next ∷ []))
 
   pub firms_stop : (tested : Bool) (firms : Items) → items_len firms ≤ most_firms

@@ -21,9 +21,9 @@ use Rattle.tn_middle.specs.WithinLemmas.{middle_within}
 use Rattle.tn_market.specs.Lawful.{IsLawful}
 use Rattle.tn_market.specs.Valued.{IsWorthAtMost}
 use Rattle.tn_base.specs.Exchange.{MeetsExchange}
-use Rattle.tn_plain_data.specs.Limits.{AreLimits, most_own_trades, most_worth, worth_limit}
-use Rattle.tn_plain_data.specs.declared.ends.Ends.{Ends}
-use Rattle.tn_plain_data.specs.declared.limits.Limits.{Limits}
+use Rattle.tn_model.specs.Limits.{AreLimits, most_own_trades, most_worth_of_any, worth_limit}
+use Rattle.tn_model.specs.declared.ends.Ends.{Ends}
+use Rattle.tn_model.specs.declared.limits.Limits.{Limits}
 use Rattle.tn_read_references.proofs.EntryLeads.{all_within, within_more}
 use Rattle.tn_read_references.specs.Ordered.{sides_of}
 use Rattle.tn_dealer.specs.Pairs.{dealer_firm}
@@ -38,7 +38,7 @@ use Rattle.tn_read_firms.proofs.RoomLemmas.{sets_room}
 -- laminar firms, middlemen and dealers meet exchange by what they are
 pub laminar_is_lawful : (limits : Limits) → AreLimits limits → (trades : List Ends) (f : ℕ) (firm : Firm)
     (is : IsLaminarFirm limits trades f firm)
-    → IsLawful most_worth (laminar_firm (sides_of trades f) is.amounts is.sets)
+    → IsLawful most_worth_of_any (laminar_firm (sides_of trades f) is.amounts is.sets)
 laminar_is_lawful limits are trades f firm is =
     let sides = sides_of trades f in
     laminar_sum_laws (length sides) (buys_of sides) is.amounts is.sets

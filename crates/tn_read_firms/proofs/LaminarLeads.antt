@@ -6,28 +6,28 @@ use Rattle.serde_json.specs.Data.{Data}
 use Rattle.serde_json.specs.Events.{items_len}
 use Rattle.serde_json.specs.Find.{get}
 use Rattle.tn_base.specs.Arcs.{IsAtMost}
-use Rattle.tn_base.specs.declared.fault.FaultKind.TheVariants.{Limit}
+use Rattle.tn_said.specs.declared.fault.FaultKind.TheVariants.{Limit}
 use Rattle.tn_laminar.specs.declared.set.LaminarSet.{LaminarSet}
 use Rattle.tn_laminar.specs.Faults.{AreSound}
 use Rattle.tn_laminar.specs.Sum.{IsOwnSet, laminar_firm}
-use Rattle.tn_plain_data.specs.declared.limits.Limits.{Limits}
-use Rattle.tn_plain_data.specs.declared.place.PlaceStep.{PlaceStep}
-use Rattle.tn_plain_data.specs.declared.place.PlaceStep.TheVariants.{Index, Key}
-use Rattle.tn_plain_data.specs.declared.place.Word.TheVariants.{Trades, Sets, From, Values}
-use Rattle.tn_shape.specs.declared.members.ObjectKind.TheVariants.{LaminarSet as LaminarSetObject}
-use Rattle.tn_shape.specs.Reading.{each, holds}
-use Rattle.tn_shape.specs.Shapes.{few_at, number_at, object_of, optional_list_at, whole_at}
+use Rattle.tn_model.specs.declared.limits.Limits.{Limits}
+use Rattle.tn_said.specs.declared.place.PlaceStep.{PlaceStep}
+use Rattle.tn_said.specs.declared.place.PlaceStep.TheVariants.{Index, Key}
+use Rattle.tn_said.specs.declared.place.Word.TheVariants.{Trades, Sets, From, Values}
+use Rattle.tn_read_shapes.specs.declared.members.ObjectKind.TheVariants.{LaminarSet as LaminarSetObject}
+use Rattle.tn_read_shapes.specs.Reading.{each, holds}
+use Rattle.tn_read_shapes.specs.Shapes.{few_at, number_at, object_of, optional_list_at, whole_at}
 use Rattle.tn_read_references.specs.Ordered.{Listed, sides_of, AreTrades}
 use Rattle.tn_read_references.specs.References.{bundle_at, firm_place}
 use Rattle.tn_read_firms.specs.OwnNumbers.{no_numbers, own_numbers}
-use Rattle.tn_read_firms.specs.Laminars.{amounts_list, check_sets, checked_laminar, laminar_of, low_at, one_set, one_value, set_of, set_place, sets_at, values_at}
+use Rattle.tn_read_firms.specs.Laminars.{amounts_list, check_sets, checked_laminar, laminar_of, laminar_set_of, low_at, one_set, one_value, set_place, sets_at, values_at}
 use Rattle.tn_read_firms.specs.Laws.{HasFewNumbers, IsLaminarFirm}
 use Rattle.tn_read_references.proofs.EntryLeads.{AreNumbers, zeros}
 use Rattle.tn_read_firms.proofs.OwnLemmas.{own_numbers_lead}
-use Rattle.tn_shape.proofs.ShapeLeads.{few_lead, number_leads}
+use Rattle.tn_read_shapes.proofs.ShapeLeads.{few_lead, number_leads}
 use Rattle.tn_read_references.proofs.ReferenceLeads.{bundle_leads}
 use Rattle.tn_read_firms.proofs.SoundLemmas.{sound_sets}
-use Rattle.tn_shape.proofs.LeadLemmas.{Leads, leads_ok, leads_bind, leads_after, leads_each, leads_count, leads_both, leads_holds, leads_as, le_from_test, small_from_test}
+use Rattle.tn_read_shapes.proofs.LeadLemmas.{Leads, leads_ok, leads_bind, leads_after, leads_each, leads_count, leads_both, leads_holds, leads_as, le_from_test, small_from_test}
 
 low_leads : (limits : Limits) (place : List PlaceStep) (value : Option Data)
     → Leads (λ low. IsAtMost low limits.from) (low_at limits place value)
@@ -83,8 +83,8 @@ module _ (listed : Listed) (trades : AreTrades listed) (f : ℕ) where
     own : IsOwnSet (length (sides_of listed.ends f)) set
     numbered : HasFewNumbers listed.limits set
 
-  set_leads : (s : ℕ) (set : Data) → Leads IsSetOf (set_of listed f s set)
-  unfolding set_of
+  set_leads : (s : ℕ) (set : Data) → Leads IsSetOf (laminar_set_of listed f s set)
+  unfolding laminar_set_of
   set_leads s set =
       leads_after IsSetOf (object_of LaminarSetObject (set_place f s) (Some set)) _ (λ object.
       leads_bind (λ b. b < 2 ^ length (sides_of listed.ends f)) IsSetOf
@@ -109,7 +109,7 @@ module _ (listed : Listed) (trades : AreTrades listed) (f : ℕ) where
   one_set_leads : (sets : List LaminarSet) (set : Data) → AreSetsOf sets → Leads AreSetsOf (one_set listed f sets set)
   unfolding one_set
   one_set_leads sets set are =
-      leads_bind IsSetOf AreSetsOf (set_of listed f (length sets) set) _ (set_leads (length sets) set) (λ next is.
+      leads_bind IsSetOf AreSetsOf (laminar_set_of listed f (length sets) set) _ (set_leads (length sets) set) (λ next is.
       leads_ok AreSetsOf (sets ++ next ∷ []) (record {
         own =
             All-push (IsOwnSet (length (sides_of listed.ends f))) sets next are.own is.own;
@@ -121,7 +121,7 @@ module _ (listed : Listed) (trades : AreTrades listed) (f : ℕ) where
       → Leads (λ next. length next ≡ length sets + 1) (one_set listed f sets set)
   unfolding one_set
   one_set_counts sets set =
-      leads_after (λ next. length next ≡ length sets + 1) (set_of listed f (length sets) set) _ (λ next.
+      leads_after (λ next. length next ≡ length sets + 1) (laminar_set_of listed f (length sets) set) _ (λ next.
       leads_ok (λ more. length more ≡ length sets + 1) (sets ++ next ∷ []) (length-append sets (next ∷ [])))
 
   abbrev pub AreFewSets : List LaminarSet → Type 0

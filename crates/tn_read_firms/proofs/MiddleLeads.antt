@@ -7,12 +7,12 @@ use Rattle.serde_json.specs.Data.{Data, null, boolean, number, string, array, ob
 use Rattle.serde_json.specs.Find.{get}
 use Rattle.tn_base.specs.Arcs.{IsAtMost}
 use Rattle.tn_middle.specs.Pairs.{middle_firm}
-use Rattle.tn_plain_data.specs.declared.limits.Limits.{Limits}
-use Rattle.tn_plain_data.specs.declared.place.PlaceStep.{PlaceStep}
-use Rattle.tn_plain_data.specs.declared.place.PlaceStep.TheVariants.{Key}
-use Rattle.tn_plain_data.specs.declared.place.Word.TheVariants.{Keep}
-use Rattle.tn_shape.specs.Reading.{◌>>=◌}
-use Rattle.tn_shape.specs.Shapes.{number_at}
+use Rattle.tn_model.specs.declared.limits.Limits.{Limits}
+use Rattle.tn_said.specs.declared.place.PlaceStep.{PlaceStep}
+use Rattle.tn_said.specs.declared.place.PlaceStep.TheVariants.{Key}
+use Rattle.tn_said.specs.declared.place.Word.TheVariants.{Keep}
+use Rattle.tn_read_shapes.specs.Reading.{◌>>=◌}
+use Rattle.tn_read_shapes.specs.Shapes.{number_at}
 use Rattle.tn_read_references.specs.Ordered.{Listed, sides_of}
 use Rattle.tn_read_references.specs.References.{firm_place}
 use Rattle.tn_read_firms.specs.OwnNumbers.{no_numbers, own_numbers}
@@ -20,8 +20,8 @@ use Rattle.tn_read_firms.specs.Middlemen.{costs_list, gains_list, keep_at, middl
 use Rattle.tn_read_firms.specs.Laws.{IsMiddlemanFirm}
 use Rattle.tn_read_references.proofs.EntryLeads.{AreNumbers, zeros}
 use Rattle.tn_read_firms.proofs.OwnLemmas.{own_numbers_lead}
-use Rattle.tn_shape.proofs.ShapeLeads.{number_leads}
-use Rattle.tn_shape.proofs.LeadLemmas.{Leads, leads_ok, leads_bind}
+use Rattle.tn_read_shapes.proofs.ShapeLeads.{number_leads}
+use Rattle.tn_read_shapes.proofs.LeadLemmas.{Leads, leads_ok, leads_bind}
 
 module _ (limits : Limits) where
   abbrev pub IsSmallKeep : Option ℤ → Type 0

@@ -5,15 +5,15 @@ use Rattle.std.proofs.lemmas.Option.{none-some, same_Some}
 use Rattle.tn_base.specs.Widths.{most_amount}
 use Rattle.tn_laminar.specs.declared.set.LaminarSet.{LaminarSet}
 use Rattle.tn_laminar.specs.Sum.{HasNumbersWithin}
-use Rattle.tn_plain_data.specs.Limits.{AreLimits, few_trades, limits_of, limits_of_many, limits_with, most_from}
-use Rattle.tn_plain_data.specs.declared.limits.Limits.{Limits}
-use Rattle.tn_shape.specs.declared.members.FirmKind.{FirmKind}
-use Rattle.tn_shape.specs.declared.members.FirmKind.TheVariants.{Table, Laminar, Middleman, Dealer}
+use Rattle.tn_model.specs.Limits.{AreLimits, few_trades, limits_of, limits_of_many, limits_with, most_from}
+use Rattle.tn_model.specs.declared.limits.Limits.{Limits}
+use Rattle.tn_read_shapes.specs.declared.members.FirmKind.{FirmKind}
+use Rattle.tn_read_shapes.specs.declared.members.FirmKind.TheVariants.{Table, Laminar, Middleman, Dealer}
 use Rattle.tn_read_references.proofs.EntryLeads.{all_within, within_more}
-use Rattle.tn_read_firms.specs.Kinds.{most_own, room_for}
+use Rattle.tn_read_firms.specs.Kinds.{most_own_of_kind, room_for}
 use Rattle.tn_read_firms.specs.Laws.{HasFewNumbers}
 
-pub own_room : (limits : Limits) → AreLimits limits → (kind : FirmKind) → most_own limits kind ≤ room_for kind
+pub own_room : (limits : Limits) → AreLimits limits → (kind : FirmKind) → most_own_of_kind limits kind ≤ room_for kind
 own_room limits are Table = are.own_of_table
 own_room limits are Laminar = are.own
 own_room limits are Middleman = are.own

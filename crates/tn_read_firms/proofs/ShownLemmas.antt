@@ -7,8 +7,8 @@ use Rattle.tn_base.specs.Firm.{Firm, HasOwnBundles}
 use Rattle.tn_base.specs.Sets.{has}
 use Rattle.tn_exchange.specs.TestOrder.{Triple, TripleFails}
 use Rattle.tn_exchange.proofs.TestLemmas.{wrong_at_own}
-use Rattle.tn_plain_data.specs.declared.ends.Ends.{Ends}
-use Rattle.tn_plain_data.specs.Network.{own, trades_of}
+use Rattle.tn_model.specs.declared.ends.Ends.{Ends}
+use Rattle.tn_model.specs.Network.{own, trades_of}
 use Rattle.tn_names.specs.Named.{IsNamed, IsNamedTriple}
 use Rattle.tn_read_firms.specs.Firms.{shown_of}
 

@@ -6,16 +6,16 @@ use Rattle.std.proofs.lemmas.Int.{ints}
 use Rattle.std.proofs.lemmas.Bool.{cases_eq, ne_eqb, false≢true, true≢false}
 use Rattle.std.proofs.lemmas.Option.{none-some, same_Some, slice_get_within}
 use Rattle.tn_base.specs.Sets.{minus}
-use Rattle.tn_base.specs.declared.fault.FaultKind.TheVariants.{NoEmpty, NotLaminar}
-use Rattle.tn_law.specs.Nested.{Cross, IsConcaveList, listed_from}
+use Rattle.tn_said.specs.declared.fault.FaultKind.TheVariants.{NoEmpty, NotLaminar}
+use Rattle.tn_firm_laws.specs.Nested.{Cross, IsConcaveList, listed_from}
 use Rattle.tn_laminar.specs.declared.set.LaminarSet.{LaminarSet}
 use Rattle.tn_laminar.specs.declared.refusal.LaminarRefusal.{LaminarRefusal}
 use Rattle.tn_laminar.specs.declared.refusal.LaminarRefusal.TheVariants.{NoEmpty as NoEmptyIs, NotConcave as NotConcaveIs, NotLaminar as NotLaminarIs, OutOfMemory as OutOfMemoryIs}
 use Rattle.tn_laminar.specs.Faults.{AreSound, CrossesEarlier, IsBend, IsFaultOf, IsFirstBend, IsFirstFault, IsRefusedFor, IsSound}
-use Rattle.tn_plain_data.specs.declared.said.Fault.{Fault}
-use Rattle.tn_shape.specs.declared.error.ReadError.{ReadError}
-use Rattle.tn_shape.specs.declared.error.ReadError.TheVariants.{Fault as FaultIs, OutOfMemory}
-use Rattle.tn_shape.specs.Reading.{◌>>=◌, Fails, holds}
+use Rattle.tn_said.specs.declared.said.Fault.{Fault}
+use Rattle.tn_read_shapes.specs.declared.error.ReadError.{ReadError}
+use Rattle.tn_read_shapes.specs.declared.error.ReadError.TheVariants.{Fault as FaultIs, OutOfMemory}
+use Rattle.tn_read_shapes.specs.Reading.{◌>>=◌, FailsAsRead, holds}
 use Rattle.tn_read_firms.specs.Laminars.{IsRefusal, bends, check_set, check_sets, crosses, first_bend, set_place, unless_bent}
 
 -- ---- places at which a list bends
@@ -256,7 +256,7 @@ module _ (earlier sets : List LaminarSet) (set : LaminarSet) where
   -- a set that is refused
   pub check_set-fails : (f : ℕ) (refusal : LaminarRefusal) (error : ReadError)
       → IsFaultOf (earlier ++ set ∷ sets) (length earlier) set refusal → IsRefusal f refusal error
-      → Fails error (check_set f earlier set)
+      → FailsAsRead error (check_set f earlier set)
   unfolding check_set
   check_set-fails f (NoEmptyIs s) OutOfMemory fault refusal = tt
   check_set-fails f (NotConcaveIs s place) OutOfMemory fault refusal = tt
@@ -318,7 +318,7 @@ module _ (f : ℕ) where
   -- sets that are refused
   fails_after : (refusal : LaminarRefusal) (error : ReadError) → IsRefusal f refusal error
       → (earlier sets : List LaminarSet) (first : IsFirstFault (earlier ++ sets) refusal) → length earlier ≤ first.at
-      → Fails error (check_sets f earlier sets)
+      → FailsAsRead error (check_sets f earlier sets)
   fails_after refusal error told earlier [] first after =
       absurd (omega (
         arith,
@@ -342,12 +342,12 @@ module _ (f : ℕ) where
         let passed =
         check_set-sound earlier sets set f (first.before (length earlier) set (omega (arith, after, differ))
         (get-next earlier sets set)) in
-        subst (Fails error) (sym (ap (λ r. r >>= λ met. check_sets f (earlier ++ set ∷ []) sets) passed))
+        subst (FailsAsRead error) (sym (ap (λ r. r >>= λ met. check_sets f (earlier ++ set ∷ []) sets) passed))
         (fails_after refusal error told (earlier ++ set ∷ []) sets (moved whole first)
         (omega (arith, after, differ, more)))
   ]
     where
-      stops : (error : ReadError) (r s : Result (Unit {0}) Fault) → Fails error r → Fails error (r >>= λ met. s)
+      stops : (error : ReadError) (r s : Result (Unit {0}) Fault) → FailsAsRead error r → FailsAsRead error (r >>= λ met. s)
       stops OutOfMemory r s h = tt
       stops (FaultIs shown) r s h = ap (λ r. r >>= λ met. s) h
 
@@ -362,7 +362,7 @@ module _ (f : ℕ) where
       }
 
   pub check_sets-fails : (sets : List LaminarSet) (refusal : LaminarRefusal) (error : ReadError)
-      → IsRefusedFor sets refusal → IsRefusal f refusal error → Fails error (check_sets f [] sets)
+      → IsRefusedFor sets refusal → IsRefusal f refusal error → FailsAsRead error (check_sets f [] sets)
   check_sets-fails sets (NoEmptyIs s) error first told =
       fails_after (NoEmptyIs s) error told [] sets first (omega arith)
   check_sets-fails sets (NotConcaveIs s place) error first told =

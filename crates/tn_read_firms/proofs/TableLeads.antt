@@ -9,32 +9,32 @@ use Rattle.tn_base.specs.Arcs.{IsAtMost}
 use Rattle.tn_base.specs.Widths.{most_amount}
 use Rattle.tn_base.specs.Table.{row_of as row_in, table_firm}
 use Rattle.tn_base.specs.declared.side.Side.{Side}
-use Rattle.tn_base.specs.declared.fault.FaultKind.TheVariants.{Limit, SameBundle}
-use Rattle.tn_exchange.specs.Rows.{TableRows, IsWithinLimits, firm_of_table, row_at, with_row, without_rows}
+use Rattle.tn_said.specs.declared.fault.FaultKind.TheVariants.{Limit, SameBundle}
+use Rattle.tn_exchange.specs.Rows.{TableRows, IsTableWithinLimits, firm_of_table, row_at, with_row, without_rows}
 use Rattle.tn_exchange.specs.RowsLaw.{AreApart}
 use Rattle.tn_exchange.proofs.RowLemmas.{IsMadeOf, limits_with_row, limits_without_rows, made_of_none, made_with_row, made_firm}
 use Rattle.tn_local.specs.First.{IsFullIfLarge}
-use Rattle.tn_plain_data.specs.declared.limits.Limits.{Limits}
-use Rattle.tn_plain_data.specs.declared.ends.Ends.{Ends}
-use Rattle.tn_plain_data.specs.declared.place.PlaceStep.TheVariants.{Index, Key}
-use Rattle.tn_plain_data.specs.declared.place.Word.TheVariants.{Rows as RowsWord}
-use Rattle.tn_shape.specs.Reading.{each, holds}
-use Rattle.tn_shape.specs.Shapes.{list_at, two_at, number_at}
+use Rattle.tn_model.specs.declared.limits.Limits.{Limits}
+use Rattle.tn_model.specs.declared.ends.Ends.{Ends}
+use Rattle.tn_said.specs.declared.place.PlaceStep.TheVariants.{Index, Key}
+use Rattle.tn_said.specs.declared.place.Word.TheVariants.{Rows as RowsWord}
+use Rattle.tn_read_shapes.specs.Reading.{each, holds}
+use Rattle.tn_read_shapes.specs.Shapes.{list_at, two_at, number_at}
 use Rattle.tn_read_references.specs.Ordered.{Listed, sides_of, AreTrades}
 use Rattle.tn_read_references.specs.References.{firm_place, bundle_at}
-use Rattle.tn_read_firms.specs.Tables.{Rows, full_if_large, has_each_row, row_place, row_of, one_row, rows_of, table_of}
+use Rattle.tn_read_firms.specs.Tables.{RowsRead, full_if_large, has_each_row, row_place, table_row_of, one_row, rows_of, table_of}
 use Rattle.tn_read_firms.proofs.FullLemmas.{full_from_test}
 use Rattle.tn_read_references.proofs.EntryLeads.{within_more}
 use Rattle.tn_read_references.proofs.ReferenceLeads.{bundle_leads}
-use Rattle.tn_shape.proofs.ShapeLeads.{number_leads}
-use Rattle.tn_shape.proofs.LeadLemmas.{Leads, leads_ok, leads_as, leads_bind, leads_after, leads_each, leads_holds}
+use Rattle.tn_read_shapes.proofs.ShapeLeads.{number_leads}
+use Rattle.tn_read_shapes.proofs.LeadLemmas.{Leads, leads_ok, leads_as, leads_bind, leads_after, leads_each, leads_holds}
 
 -- the table of firm f is a list of numbers for bundles of its own trades, no bundle twice; a large one has every bundle
 pub record IsTableOf (limits : Limits) (trades : List Ends) (f : ℕ) (table : TableRows) : Type 0 where
   pub sides : table.sides ≡ sides_of trades f
   pub few : length (sides_of trades f) ≤ limits.own_of_table
   pub full : IsFullIfLarge (firm_of_table table)
-  pub within : IsWithinLimits table
+  pub within : IsTableWithinLimits table
   pub rows : List (ℕ × ℤ)
   pub small : All (λ row. IsAtMost row.1 limits.amount) rows
   pub apart : AreApart (length (sides_of trades f)) rows
@@ -89,8 +89,8 @@ module _ (listed : Listed) (trades : AreTrades listed) (f : ℕ) where
     pub own : row.0 < 2 ^ length (sides_of listed.ends f)
     pub small : IsAtMost row.1 listed.limits.amount
 
-  pub row_leads : (r : ℕ) (row : Data) → Leads IsOwnRow (row_of listed f r row)
-  unfolding row_of
+  pub row_leads : (r : ℕ) (row : Data) → Leads IsOwnRow (table_row_of listed f r row)
+  unfolding table_row_of
   row_leads r row =
       leads_after IsOwnRow (two_at (row_place f r) row) _ (λ two.
       leads_bind (λ b. b < 2 ^ length (sides_of listed.ends f)) IsOwnRow
@@ -102,10 +102,10 @@ module _ (listed : Listed) (trades : AreTrades listed) (f : ℕ) where
       leads_ok IsOwnRow (b, z) (record { own = own; small = small }))))
 
   -- the rows so far
-  pub record AreRows (rows : Rows) : Type 0 where
+  pub record AreRows (rows : RowsRead) : Type 0 where
     pub sides : rows.table.sides ≡ sides_of listed.ends f
     pub few : length (sides_of listed.ends f) ≤ listed.limits.own_of_table
-    pub within : IsWithinLimits rows.table
+    pub within : IsTableWithinLimits rows.table
     pub listed_rows : List (ℕ × ℤ)
     pub small : All (λ row. IsAtMost row.1 listed.limits.amount) listed_rows
     pub apart : AreApart (length (sides_of listed.ends f)) listed_rows
@@ -123,10 +123,10 @@ module _ (listed : Listed) (trades : AreTrades listed) (f : ℕ) where
     made = made_of_none (sides_of listed.ends f);
   }
 
-  pub one_row_leads : (rows : Rows) (row : Data) → AreRows rows → Leads AreRows (one_row listed f rows row)
+  pub one_row_leads : (rows : RowsRead) (row : Data) → AreRows rows → Leads AreRows (one_row listed f rows row)
   unfolding one_row
   one_row_leads rows row kept =
-      leads_bind IsOwnRow AreRows (row_of listed f rows.count row) _ (row_leads rows.count row) (λ next is_own.
+      leads_bind IsOwnRow AreRows (table_row_of listed f rows.count row) _ (row_leads rows.count row) (λ next is_own.
       leads_bind (λ _. is_none (row_at rows.table.rows next.0) ≡ true) AreRows
       (holds SameBundle (row_place f rows.count) (is_none (row_at rows.table.rows next.0))) _
       (leads_holds SameBundle (row_place f rows.count) (is_none (row_at rows.table.rows next.0))) (λ u new.

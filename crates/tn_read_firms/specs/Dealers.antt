@@ -4,16 +4,16 @@ use Rattle.std.specs.List.{list_any}
 use Rattle.serde_json.specs.Data.{Data, Items, no_items, item}
 use Rattle.serde_json.specs.Find.{get}
 use Rattle.tn_base.specs.Firm.{Firm}
-use Rattle.tn_base.specs.declared.fault.FaultKind.TheVariants.{Shape, SamePair}
+use Rattle.tn_said.specs.declared.fault.FaultKind.TheVariants.{Shape, SamePair}
 use Rattle.tn_base.specs.declared.side.Side.TheVariants.{Buy, Sell}
 use Rattle.tn_dealer.specs.declared.pair.Pair.{Pair}
 use Rattle.tn_dealer.specs.Pairs.{dealer_firm}
-use Rattle.tn_plain_data.specs.declared.place.PlaceStep.{PlaceStep}
-use Rattle.tn_plain_data.specs.declared.place.PlaceStep.TheVariants.{Index, Key}
-use Rattle.tn_plain_data.specs.declared.place.Word.TheVariants.{Firms, Pairs}
-use Rattle.tn_plain_data.specs.declared.said.Fault.{Fault}
-use Rattle.tn_shape.specs.Reading.{◌>>=◌, each, wanted, holds}
-use Rattle.tn_shape.specs.Shapes.{list_at, optional_list_at, number_at}
+use Rattle.tn_said.specs.declared.place.PlaceStep.{PlaceStep}
+use Rattle.tn_said.specs.declared.place.PlaceStep.TheVariants.{Index, Key}
+use Rattle.tn_said.specs.declared.place.Word.TheVariants.{Firms, Pairs}
+use Rattle.tn_said.specs.declared.said.Fault.{Fault}
+use Rattle.tn_read_shapes.specs.Reading.{◌>>=◌, each, wanted, holds}
+use Rattle.tn_read_shapes.specs.Shapes.{list_at, optional_list_at, number_at}
 use Rattle.tn_read_references.specs.Ordered.{Listed, sides_of}
 use Rattle.tn_read_references.specs.References.{own_position}
 

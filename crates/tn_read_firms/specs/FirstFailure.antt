@@ -8,7 +8,7 @@ use Rattle.tn_base.specs.Table.{buys_of}
 use Rattle.tn_base.proofs.ExchangeLemmas.{IsDecided}
 use Rattle.tn_exchange.specs.Rows.{TableRows, firm_of_table}
 use Rattle.tn_exchange.specs.TestOrder.{Triple}
-use Rattle.tn_law.specs.Close.{distance}
+use Rattle.tn_firm_laws.specs.Close.{distance}
 use Rattle.tn_local.specs.First.{IsFirstTriple, IsFullIfLarge}
 use Rattle.tn_exchange.proofs.DecisionLemmas.{fails_or_not}
 
@@ -41,11 +41,11 @@ failing_at_pair table x y =
     or_else (first_below (λ i. failing table x y (Some i)) (length table.sides)) (failing table x y None)
 
 -- a pair of bundles of a table is looked at: any one where there are few own trades, and otherwise a close one
-abbrev pub is_looked_at : TableRows → ℕ → ℕ → Bool
-is_looked_at table x y = nat_le (length table.sides) 10 || (distance (buys_of table.sides) x y == 4)
+abbrev pub is_tested_pair : TableRows → ℕ → ℕ → Bool
+is_tested_pair table x y = nat_le (length table.sides) 10 || (distance (buys_of table.sides) x y == 4)
 
 abbrev pub failing_at_looked : TableRows → ℕ → ℕ → Option Triple
-failing_at_looked table x y = if is_looked_at table x y then failing_at_pair table x y else None
+failing_at_looked table x y = if is_tested_pair table x y then failing_at_pair table x y else None
 
 -- y goes up
 abbrev pub failing_from : TableRows → ℕ → Option Triple

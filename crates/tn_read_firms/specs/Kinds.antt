@@ -3,17 +3,17 @@ use Rattle.std.specs.Prelude.{ℕ, ◌++◌, [], ◌∷◌, List, length, codes,
 use Rattle.std.specs.Str.{bytes_eq}
 use Rattle.serde_json.specs.Data.{Data}
 use Rattle.serde_json.specs.Find.{get}
-use Rattle.tn_base.specs.declared.fault.FaultKind.TheVariants.{Shape, Limit}
-use Rattle.tn_plain_data.specs.Limits.{most_own_of_table, most_own_trades}
-use Rattle.tn_plain_data.specs.declared.limits.Limits.{Limits}
-use Rattle.tn_plain_data.specs.declared.place.PlaceStep.TheVariants.{Key}
-use Rattle.tn_plain_data.specs.declared.place.Word.TheVariants.{Kind}
-use Rattle.tn_plain_data.specs.declared.said.Fault.{Fault}
-use Rattle.tn_shape.specs.declared.members.FirmKind.{FirmKind}
-use Rattle.tn_shape.specs.declared.members.FirmKind.TheVariants.{Table, Laminar, Middleman, Dealer}
-use Rattle.tn_shape.specs.declared.members.ObjectKind.TheVariants.{Firm}
-use Rattle.tn_shape.specs.Reading.{◌>>=◌, wanted, holds}
-use Rattle.tn_shape.specs.Shapes.{text_at, object_of}
+use Rattle.tn_said.specs.declared.fault.FaultKind.TheVariants.{Shape, Limit}
+use Rattle.tn_model.specs.Limits.{most_own_of_table, most_own_trades}
+use Rattle.tn_model.specs.declared.limits.Limits.{Limits}
+use Rattle.tn_said.specs.declared.place.PlaceStep.TheVariants.{Key}
+use Rattle.tn_said.specs.declared.place.Word.TheVariants.{Kind}
+use Rattle.tn_said.specs.declared.said.Fault.{Fault}
+use Rattle.tn_read_shapes.specs.declared.members.FirmKind.{FirmKind}
+use Rattle.tn_read_shapes.specs.declared.members.FirmKind.TheVariants.{Table, Laminar, Middleman, Dealer}
+use Rattle.tn_read_shapes.specs.declared.members.ObjectKind.TheVariants.{Firm}
+use Rattle.tn_read_shapes.specs.Reading.{◌>>=◌, wanted, holds}
+use Rattle.tn_read_shapes.specs.Shapes.{text_at, object_of}
 use Rattle.tn_read_references.specs.Ordered.{Listed, sides_of}
 use Rattle.tn_read_references.specs.References.{firm_place}
 
@@ -25,17 +25,17 @@ kind_named text = if bytes_eq text (codes "table") then Some Table
     else (if bytes_eq text (codes "dealer") then Some Dealer else None)))
 
 -- the kind of firm f
-unfoldable pub kind_of : ℕ → Data → Result FirmKind Fault
-kind_of f firm = do
+unfoldable pub firm_kind_of : ℕ → Data → Result FirmKind Fault
+firm_kind_of f firm = do
   kind ← text_at (firm_place f ++ Key Kind ∷ []) (get (codes "kind") firm)
   wanted Shape (firm_place f ++ Key Kind ∷ []) (kind_named kind)
 
 -- the most own trades of a firm of a kind
-abbrev pub most_own : Limits → FirmKind → ℕ
-most_own limits Table = limits.own_of_table
-most_own limits Laminar = limits.own
-most_own limits Middleman = limits.own
-most_own limits Dealer = limits.own
+abbrev pub most_own_of_kind : Limits → FirmKind → ℕ
+most_own_of_kind limits Table = limits.own_of_table
+most_own_of_kind limits Laminar = limits.own
+most_own_of_kind limits Middleman = limits.own
+most_own_of_kind limits Dealer = limits.own
 
 -- how many own trades there is room for in a firm of a kind, whatever the version
 abbrev pub room_for : FirmKind → ℕ
@@ -45,7 +45,7 @@ room_for Middleman = most_own_trades
 room_for Dealer = most_own_trades
 
 -- firm f has the members of its kind alone, and few own trades
-unfoldable pub frame_of : Listed → ℕ → FirmKind → Data → Result (Unit {0}) Fault
-frame_of listed f kind firm = do
+unfoldable pub firm_frame_of : Listed → ℕ → FirmKind → Data → Result (Unit {0}) Fault
+firm_frame_of listed f kind firm = do
   object ← object_of (Firm kind) (firm_place f) (Some firm)
-  holds Limit (firm_place f) (nat_le (length (sides_of listed.ends f)) (most_own listed.limits kind))
+  holds Limit (firm_place f) (nat_le (length (sides_of listed.ends f)) (most_own_of_kind listed.limits kind))

@@ -7,23 +7,23 @@ use Rattle.serde_json.specs.Find.{get}
 use Rattle.tn_base.specs.Firm.{Firm}
 use Rattle.tn_base.specs.Sets.{meet, minus}
 use Rattle.tn_base.specs.declared.side.Side.{Side}
-use Rattle.tn_base.specs.declared.fault.FaultKind.TheVariants.{Limit, NoEmpty, NotConcave, NotLaminar}
-use Rattle.tn_law.specs.Nested.{listed_from}
+use Rattle.tn_said.specs.declared.fault.FaultKind.TheVariants.{Limit, NoEmpty, NotConcave, NotLaminar}
+use Rattle.tn_firm_laws.specs.Nested.{listed_from}
 use Rattle.tn_laminar.specs.declared.set.LaminarSet.{LaminarSet}
 use Rattle.tn_laminar.specs.declared.refusal.LaminarRefusal.{LaminarRefusal}
 use Rattle.tn_laminar.specs.declared.refusal.LaminarRefusal.TheVariants.{NoEmpty as NoEmptyIs, NotConcave as NotConcaveIs, NotLaminar as NotLaminarIs, OutOfMemory as OutOfMemoryIs}
 use Rattle.tn_laminar.specs.Sum.{laminar_firm}
-use Rattle.tn_plain_data.specs.declared.limits.Limits.{Limits}
-use Rattle.tn_plain_data.specs.declared.place.PlaceStep.{PlaceStep}
-use Rattle.tn_plain_data.specs.declared.place.PlaceStep.TheVariants.{Index, Key}
-use Rattle.tn_plain_data.specs.declared.place.Word.TheVariants.{Firms, Trades, Amounts, Sets, From, Values}
-use Rattle.tn_plain_data.specs.declared.said.Fault.{Fault}
-use Rattle.tn_shape.specs.declared.error.ReadError.{ReadError}
-use Rattle.tn_shape.specs.declared.error.ReadError.TheVariants.{OutOfMemory}
+use Rattle.tn_model.specs.declared.limits.Limits.{Limits}
+use Rattle.tn_said.specs.declared.place.PlaceStep.{PlaceStep}
+use Rattle.tn_said.specs.declared.place.PlaceStep.TheVariants.{Index, Key}
+use Rattle.tn_said.specs.declared.place.Word.TheVariants.{Firms, Trades, Amounts, Sets, From, Values}
+use Rattle.tn_said.specs.declared.said.Fault.{Fault}
+use Rattle.tn_read_shapes.specs.declared.error.ReadError.{ReadError}
+use Rattle.tn_read_shapes.specs.declared.error.ReadError.TheVariants.{OutOfMemory}
 use Rattle.tn_read_firms.specs.declared.own_numbers.OwnList.{OwnList}
-use Rattle.tn_shape.specs.declared.members.ObjectKind.TheVariants.{LaminarSet as LaminarSetObject}
-use Rattle.tn_shape.specs.Reading.{◌>>=◌, IsFaultAt, fault, each, holds}
-use Rattle.tn_shape.specs.Shapes.{whole_at, number_at, few_at, optional_list_at, object_of}
+use Rattle.tn_read_shapes.specs.declared.members.ObjectKind.TheVariants.{LaminarSet as LaminarSetObject}
+use Rattle.tn_read_shapes.specs.Reading.{◌>>=◌, IsFaultAt, fault, each, holds}
+use Rattle.tn_read_shapes.specs.Shapes.{whole_at, number_at, few_at, optional_list_at, object_of}
 use Rattle.tn_read_references.specs.Ordered.{Listed, sides_of}
 use Rattle.tn_read_references.specs.References.{firm_place, bundle_at}
 use Rattle.tn_read_firms.specs.OwnNumbers.{no_numbers, own_numbers}
@@ -51,8 +51,8 @@ values_at limits f s value = do
   each (one_value limits f s) [] values
 
 -- set s of firm f
-unfoldable pub set_of : Listed → ℕ → ℕ → Data → Result LaminarSet Fault
-set_of listed f s set = do
+unfoldable pub laminar_set_of : Listed → ℕ → ℕ → Data → Result LaminarSet Fault
+laminar_set_of listed f s set = do
   object ← object_of LaminarSetObject (set_place f s) (Some set)
   members ← bundle_at listed f (set_place f s ++ Key Trades ∷ []) (get (codes "trades") set)
   low ← low_at listed.limits (set_place f s ++ Key From ∷ []) (get (codes "from") set)
@@ -62,7 +62,7 @@ set_of listed f s set = do
 -- one more set; its number is the count of those before it
 unfoldable pub one_set : Listed → ℕ → List LaminarSet → Data → Result (List LaminarSet) Fault
 one_set listed f sets set = do
-  next ← set_of listed f (length sets) set
+  next ← laminar_set_of listed f (length sets) set
   Ok (sets ++ next ∷ [])
 
 -- not too many sets, none where the member isn't there

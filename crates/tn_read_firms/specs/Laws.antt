@@ -13,9 +13,9 @@ use Rattle.tn_market.specs.Valued.{IsWorthAtMost}
 use Rattle.tn_middle.specs.Pairs.{middle_firm}
 use Rattle.tn_base.specs.Table.{buys_of}
 use Rattle.tn_dealer.specs.declared.pair.Pair.{Pair}
-use Rattle.tn_dealer.specs.Pairs.{AreDifferent, IsOwnPair, dealer_firm}
-use Rattle.tn_plain_data.specs.declared.limits.Limits.{Limits}
-use Rattle.tn_plain_data.specs.declared.ends.Ends.{Ends}
+use Rattle.tn_dealer.specs.Pairs.{AreUnrepeated, IsOwnPair, dealer_firm}
+use Rattle.tn_model.specs.declared.limits.Limits.{Limits}
+use Rattle.tn_model.specs.declared.ends.Ends.{Ends}
 use Rattle.tn_read_references.specs.Ordered.{sides_of}
 
 -- firm f is a list of numbers for bundles of its own trades, no bundle twice, each number within the limit of amounts;
@@ -64,7 +64,7 @@ pub record IsDealerFirm (limits : Limits) (trades : List Ends) (f : ℕ) (firm :
   pub few : length (sides_of trades f) ≤ limits.own
   pub own : All (IsOwnPair (length (sides_of trades f)) (buys_of (sides_of trades f))) pairs
   pub small : All (λ pair. IsAtMost pair.cost limits.amount) pairs
-  pub different : AreDifferent pairs
+  pub different : AreUnrepeated pairs
 
 -- firm f is of one of the four kinds
 pub data IsListedFirm (limits : Limits) (trades : List Ends) (f : ℕ) (firm : Firm) : Type 0 where

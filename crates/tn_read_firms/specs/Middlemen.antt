@@ -4,15 +4,15 @@ use Rattle.serde_json.specs.Data.{Data, null}
 use Rattle.serde_json.specs.Find.{get}
 use Rattle.tn_base.specs.Firm.{Firm}
 use Rattle.tn_base.specs.declared.side.Side.TheVariants.{Buy, Sell}
-use Rattle.tn_plain_data.specs.declared.limits.Limits.{Limits}
-use Rattle.tn_plain_data.specs.declared.place.PlaceStep.{PlaceStep}
-use Rattle.tn_plain_data.specs.declared.place.PlaceStep.TheVariants.{Key}
-use Rattle.tn_plain_data.specs.declared.place.Word.TheVariants.{Costs, Gains, Keep}
-use Rattle.tn_plain_data.specs.declared.said.Fault.{Fault}
+use Rattle.tn_model.specs.declared.limits.Limits.{Limits}
+use Rattle.tn_said.specs.declared.place.PlaceStep.{PlaceStep}
+use Rattle.tn_said.specs.declared.place.PlaceStep.TheVariants.{Key}
+use Rattle.tn_said.specs.declared.place.Word.TheVariants.{Costs, Gains, Keep}
+use Rattle.tn_said.specs.declared.said.Fault.{Fault}
 use Rattle.tn_middle.specs.Pairs.{middle_firm}
 use Rattle.tn_read_firms.specs.declared.own_numbers.OwnList.{OwnList}
-use Rattle.tn_shape.specs.Reading.{◌>>=◌}
-use Rattle.tn_shape.specs.Shapes.{number_at}
+use Rattle.tn_read_shapes.specs.Reading.{◌>>=◌}
+use Rattle.tn_read_shapes.specs.Shapes.{number_at}
 use Rattle.tn_read_references.specs.Ordered.{Listed, sides_of}
 use Rattle.tn_read_references.specs.References.{firm_place}
 use Rattle.tn_read_firms.specs.OwnNumbers.{no_numbers, own_numbers}

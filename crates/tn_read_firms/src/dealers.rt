@@ -4,19 +4,19 @@ ghost use Rattle.std.specs.Prelude.{◌≡◌, ◌*◌, ◌≤◌, ◌++◌, ◌
 ghost use Rattle.std.specs.List.{list_any};
 ghost use Rattle.serde_json.specs.View.{view, items_view};
 ghost use Rattle.tn_dealer.specs.Firms.{firm_of};
-ghost use Rattle.tn_plain_data.specs.Limits.{most_own_trades};
+ghost use Rattle.tn_model.specs.Limits.{most_own_trades};
 ghost use Rattle.tn_read_firms.specs.Dealers.{dealer_of, is_same_pair, one_pair, pair_of, three_at, three_of};
 ghost use Rattle.tn_read_references.specs.Ordered.{AreTrades, sides_of};
-ghost use Rattle.tn_shape.specs.Reading.{Gives, each};
+ghost use Rattle.tn_read_shapes.specs.Reading.{Gives, each};
 
 use serde_json::Value;
 use std::alloc::Global;
-use tn_base::{FaultKind, Side};
+use tn_base::Side;
 use tn_dealer::{Dealer, Pair};
-use tn_market::PlaceStep::{Index, Key};
-use tn_market::{PlaceStep, Word};
 use tn_read_references::{Head, own_position, sides_of};
-use tn_shape::{ReadError, fault, list, member, number, optional_list, require};
+use tn_read_shapes::{ReadError, fault, list, member, number, optional_list, require};
+use tn_said::PlaceStep::{Index, Key};
+use tn_said::{FaultKind, PlaceStep, Word};
 
 /// The dealer `f`.
 #[tactic(auto, unfolding(crate::specs::Dealers::dealer_of))]

@@ -1,15 +1,16 @@
 //! The fault of a table that doesn't meet exchange.
 
 ghost use Rattle.std.specs.Prelude.{◌≡◌, ◌≤◌, length, option_map, IfOk};
-ghost use Rattle.tn_plain_data.specs.Limits.{most_trades};
-ghost use Rattle.tn_plain_data.specs.Network.{own};
-ghost use Rattle.tn_read_firms.specs.Firms.{failure_of};
+ghost use Rattle.tn_model.specs.Limits.{most_trades};
+ghost use Rattle.tn_model.specs.Network.{own};
+ghost use Rattle.tn_read_firms.specs.Firms.{exchange_fault};
 
 use std::alloc::Global;
-use tn_base::{Bundle, FaultKind, OutOfMemory};
-use tn_market::PlaceStep::{Index, Key};
-use tn_market::{Ends, Fault, Place, Shown, Trades, Word};
-use tn_plain_data::{own, trades_of};
+use tn_base::{Bundle, OutOfMemory};
+use tn_market::{Ends, Trades};
+use tn_model::{own, trades_of};
+use tn_said::PlaceStep::{Index, Key};
+use tn_said::{Fault, FaultKind, Place, Shown, Word};
 
 /// The fault of firm `f`, which has so many own trades, that a triple fails.
 pub(crate) fn failure(
@@ -23,7 +24,7 @@ pub(crate) fn failure(
 ) -> Result<Fault, OutOfMemory>
     requires few { length ends.now ≤ most_trades }
     requires count { count ≤ 64 }
-    ensures { IfOk result (λ fault. fault ≡ failure_of ends.now f count (record { x = x; y = y; at = at })) }
+    ensures { IfOk result (λ fault. fault ≡ exchange_fault ends.now f count (record { x = x; y = y; at = at })) }
 {
     let place = Vec::from_slice(alloc, &[Key(Word::Firms), Index(f)])?;
     let x = trades_of(alloc, ends, f, count, x)?;

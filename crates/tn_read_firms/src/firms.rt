@@ -4,15 +4,15 @@ ghost use Rattle.std.specs.Prelude.{ℕ, ◌<◌, ◌≤◌, [], length, map, Al
 ghost use Rattle.serde_json.specs.View.{view, items_view};
 ghost use Rattle.tn_exchange.specs.Rows.{firm_of_table};
 ghost use Rattle.tn_local.specs.First.{IsFullIfLarge};
-ghost use Rattle.tn_plain_data.specs.Limits.{most_firms, most_own_of_table, most_own_trades};
-ghost use Rattle.tn_read_firms.specs.Firms.{firm_by, firm_of, one_firm};
+ghost use Rattle.tn_model.specs.Limits.{most_firms, most_own_of_table, most_own_trades};
+ghost use Rattle.tn_read_firms.specs.Firms.{document_firm, firm_by, one_firm};
 ghost use Rattle.tn_read_firms.specs.Kinds.{room_for};
 ghost use Rattle.tn_read_references.specs.Ordered.{sides_of};
-ghost use Rattle.tn_shape.specs.Reading.{Gives, each};
+ghost use Rattle.tn_read_shapes.specs.Reading.{Gives, each};
 ghost use Rattle.tn_read_firms.specs.Tables.{table_of};
 
 use crate::dealers::dealer_of;
-use crate::kinds::{check_frame, kind_of};
+use crate::kinds::{check_frame, firm_kind_of};
 use crate::laminars::laminar_of;
 use crate::made::FromKinds;
 use crate::middlemen::middle_of;
@@ -20,10 +20,10 @@ use crate::rows::read_rows;
 use serde_json::Value;
 use std::alloc::Global;
 use tn_exchange::RawTable;
-use tn_market::PlaceStep::{Index, Key};
-use tn_market::Word;
 use tn_read_references::Head;
-use tn_shape::{FirmKind, ReadError, list, member};
+use tn_read_shapes::{FirmKind, ReadError, list, member};
+use tn_said::PlaceStep::{Index, Key};
+use tn_said::Word;
 
 /// The firms in their order.
 pub fn read_firms<F: FromKinds + Drop>(
@@ -42,20 +42,25 @@ pub fn read_firms<F: FromKinds + Drop>(
     let mut made = Vec::new(alloc);
     for firm in firms {
         let f = made.len() as u32;
-        let next = firm_of(alloc, head, f, firm)?;
+        let next = document_firm(alloc, head, f, firm)?;
         made.push(next)?;
     }
     Ok(made)
 }
 
-#[tactic(auto, unfolding(crate::specs::Firms::firm_of))]
-fn firm_of<F: FromKinds>(alloc: Global, head: &Head, f: u32, firm: &Value) -> Result<F, ReadError>
+#[tactic(auto, unfolding(crate::specs::Firms::document_firm))]
+fn document_firm<F: FromKinds>(
+    alloc: Global,
+    head: &Head,
+    f: u32,
+    firm: &Value,
+) -> Result<F, ReadError>
     ensures gives { Gives F.firm result
-        (firm_of F.tested head.now f (view firm.now)) }
+        (document_firm F.tested head.now f (view firm.now)) }
     ensures few { IfOk result (λ _. length (sides_of head.now.ends f) ≤ most_own_trades) }
     ensures known { IfOk result F.known }
 {
-    let kind = kind_of(alloc, f, firm)?;
+    let kind = firm_kind_of(alloc, f, firm)?;
     check_frame(alloc, head, f, kind, firm)?;
     firm_by(alloc, head, f, kind, firm)
 }

@@ -4,24 +4,25 @@ ghost use Rattle.std.specs.Prelude.{◌≡◌, ◌+◌, ◌<◌, ◌≤◌, [], 
 ghost use Rattle.serde_json.specs.View.{view, items_view};
 ghost use Rattle.tn_base.specs.Arcs.{IsAtMost};
 ghost use Rattle.tn_base.specs.Widths.{most_amount};
-ghost use Rattle.tn_plain_data.specs.Limits.{most_own_trades, most_sets, most_values};
+ghost use Rattle.tn_model.specs.Limits.{most_own_trades, most_sets, most_values};
 ghost use Rattle.tn_laminar.specs.Firms.{firm_of};
 ghost use Rattle.tn_laminar.specs.Sum.{HasNumbersWithin, IsOwnSet};
-ghost use Rattle.tn_read_firms.specs.Laminars.{IsRefusal, checked_laminar, laminar_of, low_at, one_set, one_value, set_of, sets_at, values_at};
+ghost use Rattle.tn_read_firms.specs.Laminars.{IsRefusal, checked_laminar, laminar_of, laminar_set_of, low_at, one_set, one_value, sets_at, values_at};
 ghost use Rattle.tn_read_references.specs.Ordered.{sides_of};
-ghost use Rattle.tn_shape.specs.Reading.{Gives, each};
+ghost use Rattle.tn_read_shapes.specs.Reading.{Gives, each};
 
 use crate::own_numbers::{OwnList, own_numbers};
 use serde_json::Value;
 use std::alloc::Global;
-use tn_base::{FaultKind, Side};
+use tn_base::Side;
 use tn_laminar::{Laminar, LaminarRefusal, LaminarSet};
-use tn_market::PlaceStep::{Index, Key};
-use tn_market::{Amounts, PlaceStep, Word};
+use tn_market::Amounts;
 use tn_read_references::{Head, OwnPart, PartAt, own_bundle, sides_of};
-use tn_shape::{
+use tn_read_shapes::{
     ObjectKind, ReadError, fault, few, member, number, object_of, optional_list, require, whole,
 };
+use tn_said::PlaceStep::{Index, Key};
+use tn_said::{FaultKind, PlaceStep, Word};
 
 /// The laminar firm `f`. All its sets are read before the first one is tested.
 #[tactic(auto, unfolding(crate::specs::Laminars::laminar_of))]
@@ -99,7 +100,7 @@ fn refused(alloc: Global, f: u32, refusal: LaminarRefusal) -> ReadError
 }
 
 /// The sets of firm `f`.
-#[tactic(auto, unfolding(crate::specs::Laminars::sets_at), using(tn_shape::proofs::ShapeLemmas::items_len_is))]
+#[tactic(auto, unfolding(crate::specs::Laminars::sets_at), using(tn_read_shapes::proofs::ShapeLemmas::items_len_is))]
 fn read_sets(
     alloc: Global,
     head: &Head,
@@ -155,17 +156,23 @@ fn add_set(
         (one_set head.now f sets.old.items (view set.now)) }
     ensures count { OnOk result (length sets.new.items ≡ length sets.old.items + 1) }
 {
-    let next = set_of(alloc, head, f, sets.len() as u32, set)?;
+    let next = laminar_set_of(alloc, head, f, sets.len() as u32, set)?;
     sets.push(next)?;
     Ok(())
 }
 
 /// Set `s` of firm `f`.
-#[tactic(auto, unfolding(crate::specs::Laminars::set_of))]
-fn set_of(alloc: Global, head: &Head, f: u32, s: u32, set: &Value) -> Result<LaminarSet, ReadError>
+#[tactic(auto, unfolding(crate::specs::Laminars::laminar_set_of))]
+fn laminar_set_of(
+    alloc: Global,
+    head: &Head,
+    f: u32,
+    s: u32,
+    set: &Value,
+) -> Result<LaminarSet, ReadError>
     requires few { length (sides_of head.now.ends f) ≤ most_own_trades }
     ensures { Gives (λ set. set) result
-        (set_of head.now f s (view set.now)) }
+        (laminar_set_of head.now f s (view set.now)) }
 {
     let place = [Key(Word::Firms), Index(f), Key(Word::Sets), Index(s)];
     object_of(alloc, ObjectKind::LaminarSet, Some(set), &place)?;

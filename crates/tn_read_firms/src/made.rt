@@ -6,10 +6,10 @@ ghost use Rattle.tn_laminar.specs.Firms.{firm_of as laminar_firm_of};
 ghost use Rattle.tn_middle.specs.Firms.{firm_of as middle_firm_of};
 ghost use Rattle.tn_dealer.specs.Firms.{firm_of as dealer_firm_of};
 ghost use Rattle.tn_exchange.specs.Rows.{firm_of_table};
-ghost use Rattle.tn_plain_data.specs.Limits.{most_own_of_table};
+ghost use Rattle.tn_model.specs.Limits.{most_own_of_table};
 ghost use Rattle.tn_read_firms.specs.Firms.{tested_firm};
 ghost use Rattle.tn_local.specs.First.{IsFullIfLarge};
-ghost use Rattle.tn_shape.specs.Reading.{Gives};
+ghost use Rattle.tn_read_shapes.specs.Reading.{Gives};
 
 use crate::failures::failure;
 use std::alloc::Global;
@@ -19,7 +19,7 @@ use tn_firm::{FirmValue, RawFirm};
 use tn_laminar::Laminar;
 use tn_middle::Middle;
 use tn_read_references::Head;
-use tn_shape::ReadError;
+use tn_read_shapes::ReadError;
 use tn_table::{Table, TableRefused};
 
 /// A firm that can be made of each kind. Where it is to meet exchange, this is the one time that a table is tested.

@@ -3,20 +3,20 @@
 ghost use Rattle.std.specs.Prelude.{◌≤◌, length, option_map};
 ghost use Rattle.serde_json.specs.View.{view};
 ghost use Rattle.tn_middle.specs.Firms.{firm_of};
-ghost use Rattle.tn_plain_data.specs.Limits.{most_own_trades};
+ghost use Rattle.tn_model.specs.Limits.{most_own_trades};
 ghost use Rattle.tn_read_firms.specs.Middlemen.{keep_at, middle_of};
 ghost use Rattle.tn_read_references.specs.Ordered.{sides_of};
-ghost use Rattle.tn_shape.specs.Reading.{Gives};
+ghost use Rattle.tn_read_shapes.specs.Reading.{Gives};
 
 use crate::own_numbers::{OwnList, own_numbers};
 use serde_json::Value;
 use std::alloc::Global;
 use tn_base::Side;
-use tn_market::PlaceStep::{Index, Key};
-use tn_market::{PlaceStep, Word};
 use tn_middle::Middle;
 use tn_read_references::{Head, sides_of};
-use tn_shape::{ReadError, member, number};
+use tn_read_shapes::{ReadError, member, number};
+use tn_said::PlaceStep::{Index, Key};
+use tn_said::{PlaceStep, Word};
 
 /// The middleman `f`.
 #[tactic(auto, unfolding(crate::specs::Middlemen::middle_of))]

@@ -2,18 +2,18 @@
 
 ghost use Rattle.std.specs.Prelude.{◌≡◌, ◌<◌, ◌≤◌, length, option_map, IfOk};
 ghost use Rattle.serde_json.specs.View.{view, items_view};
-ghost use Rattle.tn_plain_data.specs.Limits.{most_own_trades};
+ghost use Rattle.tn_model.specs.Limits.{most_own_trades};
 ghost use Rattle.tn_read_references.specs.Ordered.{sides_of};
 ghost use Rattle.tn_read_firms.specs.OwnNumbers.{one_own, own_entry, own_numbers};
-ghost use Rattle.tn_shape.specs.Reading.{Gives, each};
+ghost use Rattle.tn_read_shapes.specs.Reading.{Gives, each};
 
 use serde_json::Value;
 use std::alloc::Global;
-use tn_base::{Bundle, FaultKind, Side};
-use tn_market::PlaceStep::{Index, Key};
-use tn_market::{PlaceStep, Word};
+use tn_base::{Bundle, Side};
 use tn_read_references::{Head, own_position};
-use tn_shape::{ReadError, number, optional_list, require, two};
+use tn_read_shapes::{ReadError, number, optional_list, require, two};
+use tn_said::PlaceStep::{Index, Key};
+use tn_said::{FaultKind, PlaceStep, Word};
 
 /// A list of a firm, whose entries give numbers to own trades.
 #[derive(Clone, Copy)]

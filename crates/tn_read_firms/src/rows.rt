@@ -4,21 +4,21 @@ ghost use Rattle.std.specs.Prelude.{◌≡◌, ◌+◌, ◌^◌, ◌<◌, ◌≤
 ghost use Rattle.serde_json.specs.View.{view, items_view};
 ghost use Rattle.tn_base.specs.Arcs.{IsAtMost};
 ghost use Rattle.tn_base.specs.Widths.{most_amount};
-ghost use Rattle.tn_plain_data.specs.Limits.{most_own_of_table};
+ghost use Rattle.tn_model.specs.Limits.{most_own_of_table};
 ghost use Rattle.tn_exchange.specs.Rows.{firm_of_table};
 ghost use Rattle.tn_local.specs.First.{IsFullIfLarge};
 ghost use Rattle.tn_read_references.specs.Ordered.{sides_of};
-ghost use Rattle.tn_shape.specs.Reading.{Gives};
-ghost use Rattle.tn_read_firms.specs.Tables.{filled, full_if_large, one_row, row_of, rows_of};
+ghost use Rattle.tn_read_shapes.specs.Reading.{Gives};
+ghost use Rattle.tn_read_firms.specs.Tables.{filled_count, full_if_large, one_row, rows_of, table_row_of};
 
 use serde_json::Value;
 use std::alloc::Global;
-use tn_base::{Bundle, FaultKind};
+use tn_base::Bundle;
 use tn_exchange::{RawTable, RowRefusal};
-use tn_market::PlaceStep::{Index, Key};
-use tn_market::Word;
 use tn_read_references::{Head, OwnPart, PartAt, own_bundle, sides_of};
-use tn_shape::{ReadError, fault, number, require, two};
+use tn_read_shapes::{ReadError, fault, number, require, two};
+use tn_said::PlaceStep::{Index, Key};
+use tn_said::{FaultKind, Word};
 
 /// The table of the rows of firm `f`, which has at most 14 own trades. With more than 10, every bundle that isn't empty
 /// has a row.
@@ -79,9 +79,9 @@ fn read_row(
         (record { count = count; table = table.old }) (view row.now)) }
     ensures sides { OnOk result (table.new.sides ≡ table.old.sides) }
     ensures places { OnOk result (length table.new.rows ≡ length table.old.rows) }
-    ensures filled { OnOk result (filled table.new.rows ≡ filled table.old.rows + 1) }
+    ensures filled { OnOk result (filled_count table.new.rows ≡ filled_count table.old.rows + 1) }
 {
-    let (bundle, amount) = row_of(alloc, head, f, count, row)?;
+    let (bundle, amount) = table_row_of(alloc, head, f, count, row)?;
     match table.add(bundle, amount) {
         Ok(()) => Ok(()),
         Err(RowRefusal::Same) => {
@@ -92,8 +92,8 @@ fn read_row(
 }
 
 /// The bundle of row `r` and its number.
-#[tactic(auto, unfolding(crate::specs::Tables::row_of))]
-fn row_of(
+#[tactic(auto, unfolding(crate::specs::Tables::table_row_of))]
+fn table_row_of(
     alloc: Global,
     head: &Head,
     f: u32,
@@ -102,7 +102,7 @@ fn row_of(
 ) -> Result<(Bundle, i128), ReadError>
     requires few { length (sides_of head.now.ends f) ≤ most_own_of_table }
     ensures gives { Gives (λ p. p) result
-        (row_of head.now f r (view row.now)) }
+        (table_row_of head.now f r (view row.now)) }
     ensures own { IfOk result (λ p. p.0 < 2 ^ length (sides_of head.now.ends f)) }
     ensures small { IfOk result (λ p. IsAtMost p.1 most_amount) }
 {

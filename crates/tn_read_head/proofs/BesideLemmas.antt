@@ -3,15 +3,15 @@ use Rattle.std.proofs.Common.{◌≡◌, ℕ, ◌<◌, List, length, drop, get_o
 use Rattle.serde_json.specs.Data.{Data}
 use Rattle.serde_json.specs.View.{view, items_view}
 use Rattle.serde_json.specs.declared.value.Value.{Value}
-use Rattle.tn_plain_data.specs.declared.said.Fault.{Fault}
+use Rattle.tn_said.specs.declared.said.Fault.{Fault}
 use Rattle.tn_names.specs.Names.{NameLists}
-use Rattle.tn_shape.specs.declared.error.ReadError.{ReadError}
-use Rattle.tn_shape.specs.declared.error.ReadError.TheVariants.{Fault as FaultIs, OutOfMemory}
+use Rattle.tn_read_shapes.specs.declared.error.ReadError.{ReadError}
+use Rattle.tn_read_shapes.specs.declared.error.ReadError.TheVariants.{Fault as FaultIs, OutOfMemory}
 use Rattle.tn_read_head.specs.Beside.{Stop, FailsBeside, with_names}
-use Rattle.tn_shape.specs.Reading.{each}
-use Rattle.tn_shape.proofs.LeadLemmas.{Leads, leads_ok}
-use Rattle.tn_shape.proofs.EachLemmas.{each_stops_at}
-use Rattle.tn_shape.proofs.StopLemmas.{Stops, stops_ok, stops_err}
+use Rattle.tn_read_shapes.specs.Reading.{each}
+use Rattle.tn_read_shapes.proofs.LeadLemmas.{Leads, leads_ok}
+use Rattle.tn_read_shapes.proofs.EachLemmas.{each_stops_at}
+use Rattle.tn_read_shapes.proofs.StopLemmas.{Stops, stops_ok, stops_err}
 
 pub each_fails_beside : {A : Type 0} (step : A → Data
     → Result A Stop) (names : NameLists) (e : ReadError) (vs : List Value) (k : ℕ) (d : Value) (found : A)

@@ -4,24 +4,24 @@ use Rattle.std.specs.Prelude.{codes, option_and_then}
 use Rattle.serde_json.specs.Data.{Data, Items}
 use Rattle.serde_json.specs.Events.{items_len}
 use Rattle.serde_json.specs.Find.{get, as_number, as_u64}
-use Rattle.tn_base.specs.declared.fault.FaultKind.TheVariants.{Shape}
-use Rattle.tn_plain_data.specs.Limits.{AreLimits, limits_of, most_firms}
-use Rattle.tn_plain_data.specs.declared.limits.Limits.{Limits}
-use Rattle.tn_plain_data.proofs.LimitLemmas.{limits_are}
-use Rattle.tn_plain_data.specs.declared.place.PlaceStep.TheVariants.{Key}
-use Rattle.tn_plain_data.specs.declared.place.Word.TheVariants.{Version, Firms, Trades}
+use Rattle.tn_said.specs.declared.fault.FaultKind.TheVariants.{Shape}
+use Rattle.tn_model.specs.Limits.{AreLimits, limits_of, most_firms}
+use Rattle.tn_model.specs.declared.limits.Limits.{Limits}
+use Rattle.tn_model.proofs.LimitLemmas.{limits_are}
+use Rattle.tn_said.specs.declared.place.PlaceStep.TheVariants.{Key}
+use Rattle.tn_said.specs.declared.place.Word.TheVariants.{Version, Firms, Trades}
 use Rattle.tn_names.specs.Names.{NameLists, IsNameList, no_names}
-use Rattle.tn_shape.specs.declared.members.ObjectKind.TheVariants.{Top}
+use Rattle.tn_read_shapes.specs.declared.members.ObjectKind.TheVariants.{Top}
 use Rattle.tn_read_head.specs.Beside.{with_names}
-use Rattle.tn_shape.specs.Reading.{each, wanted}
-use Rattle.tn_shape.specs.Shapes.{few_at, object_of}
+use Rattle.tn_read_shapes.specs.Reading.{each, wanted}
+use Rattle.tn_read_shapes.specs.Shapes.{few_at, object_of}
 use Rattle.tn_read_references.specs.Ordered.{Listed, AreInOrder, AreTrades}
 use Rattle.tn_read_head.specs.Naming.{NamedTrades, one_firm_name, one_trade}
 use Rattle.tn_read_head.specs.Listing.{limits_at, listed_of}
-use Rattle.tn_shape.proofs.LeadLemmas.{Leads, leads_ok, leads_bind, leads_after, leads_wanted, leads_as, leads_both}
+use Rattle.tn_read_shapes.proofs.LeadLemmas.{Leads, leads_ok, leads_bind, leads_after, leads_wanted, leads_as, leads_both}
 use Rattle.tn_read_head.proofs.BesideLemmas.{leads_beside}
 use Rattle.tn_read_head.proofs.NameLeads.{IsListWhileFew, AreListed, firms_lead, firms_count, trades_lead, trades_count}
-use Rattle.tn_shape.proofs.ShapeLeads.{few_lead}
+use Rattle.tn_read_shapes.proofs.ShapeLeads.{few_lead}
 
 -- the limits are those of a version
 abbrev pub AreOfVersion : Limits → Type 0

@@ -4,27 +4,27 @@ use Rattle.std.specs.Prelude.{codes, option_and_then}
 use Rattle.serde_json.specs.Data.{Data}
 use Rattle.serde_json.specs.Events.{items_len}
 use Rattle.serde_json.specs.Find.{get, as_number, as_u64}
-use Rattle.tn_base.specs.declared.fault.FaultKind.TheVariants.{Shape}
-use Rattle.tn_plain_data.specs.Limits.{AreLimits, limits_of, most_firms, most_trades}
-use Rattle.tn_plain_data.specs.declared.place.PlaceStep.TheVariants.{Key}
-use Rattle.tn_plain_data.specs.declared.place.Word.TheVariants.{Firms, Trades, Version}
-use Rattle.tn_plain_data.specs.declared.said.Fault.{Fault}
+use Rattle.tn_said.specs.declared.fault.FaultKind.TheVariants.{Shape}
+use Rattle.tn_model.specs.Limits.{AreLimits, limits_of, most_firms, most_trades}
+use Rattle.tn_said.specs.declared.place.PlaceStep.TheVariants.{Key}
+use Rattle.tn_said.specs.declared.place.Word.TheVariants.{Firms, Trades, Version}
+use Rattle.tn_said.specs.declared.said.Fault.{Fault}
 use Rattle.tn_names.specs.Names.{NameLists, IsNameList, no_names}
-use Rattle.tn_shape.specs.declared.members.ObjectKind.TheVariants.{Top}
+use Rattle.tn_read_shapes.specs.declared.members.ObjectKind.TheVariants.{Top}
 use Rattle.tn_read_head.specs.Beside.{with_names, IsStop}
-use Rattle.tn_shape.specs.Reading.{each, wanted}
-use Rattle.tn_shape.specs.Shapes.{few_at, object_of}
+use Rattle.tn_read_shapes.specs.Reading.{each, wanted}
+use Rattle.tn_read_shapes.specs.Shapes.{few_at, object_of}
 use Rattle.tn_read_head.specs.Naming.{NamedTrades, ends_at, firm_name, one_firm_name, one_trade, trade_name}
 use Rattle.tn_read_head.specs.Listing.{limits_at, listed_of}
-use Rattle.tn_shape.proofs.LeadLemmas.{Leads, leads_as, leads_both}
+use Rattle.tn_read_shapes.proofs.LeadLemmas.{Leads, leads_as, leads_both}
 use Rattle.tn_read_head.proofs.BesideLemmas.{leads_beside, stops_beside}
 use Rattle.tn_read_head.proofs.NameLeads.{AreListed, IsListWhileFew, IsMore, firm_name_leads, firms_count, firms_lead, more_count, more_names, no_trades_listed, none_named, one_trade_count, one_trade_leads, trade_name_leads}
-use Rattle.tn_shape.proofs.ShapeLeads.{few_lead}
+use Rattle.tn_read_shapes.proofs.ShapeLeads.{few_lead}
 use Rattle.tn_read_head.proofs.ListingLeads.{limits_lead}
-use Rattle.tn_shape.proofs.StopLemmas.{IsPlain, Stops, StopsPlainly, plain_wanted, stops_after, stops_bind, stops_each_few, stops_ok}
+use Rattle.tn_read_shapes.proofs.StopLemmas.{IsPlain, Stops, StopsPlainly, plain_wanted, stops_after, stops_bind, stops_each_few, stops_ok}
 use Rattle.tn_read_references.proofs.ToldLemmas.{IsTold, told_plain}
 use Rattle.tn_read_head.proofs.NameStops.{ends_stop, firm_name_stops, trade_name_stops}
-use Rattle.tn_shape.proofs.ShapeStops.{few_stops, object_stops}
+use Rattle.tn_read_shapes.proofs.ShapeStops.{few_stops, object_stops}
 
 -- names that keep the rules
 pub record AreNames (names : NameLists) : Type 0 where

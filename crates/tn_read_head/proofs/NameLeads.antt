@@ -5,23 +5,23 @@ use Rattle.std.proofs.lemmas.Option.{none-some}
 use Rattle.serde_json.specs.Data.{Data, Items}
 use Rattle.serde_json.specs.Events.{items_len}
 use Rattle.serde_json.specs.Find.{get}
-use Rattle.tn_base.specs.declared.fault.FaultKind.TheVariants.{BadName, SameName, SelfTrade}
-use Rattle.tn_plain_data.specs.declared.ends.Ends.{Ends}
-use Rattle.tn_plain_data.specs.declared.place.PlaceStep.{PlaceStep}
-use Rattle.tn_plain_data.specs.declared.place.PlaceStep.TheVariants.{Index, Key}
-use Rattle.tn_plain_data.specs.declared.place.Word.TheVariants.{Firms, Trades, Name, Seller, Buyer}
+use Rattle.tn_said.specs.declared.fault.FaultKind.TheVariants.{BadName, SameName, SelfTrade}
+use Rattle.tn_model.specs.declared.ends.Ends.{Ends}
+use Rattle.tn_said.specs.declared.place.PlaceStep.{PlaceStep}
+use Rattle.tn_said.specs.declared.place.PlaceStep.TheVariants.{Index, Key}
+use Rattle.tn_said.specs.declared.place.Word.TheVariants.{Firms, Trades, Name, Seller, Buyer}
 use Rattle.tn_names.specs.Names.{NameLists, IsNameList, most_names, has_name, is_name, with_firm, with_trade}
 use Rattle.tn_names.proofs.NameLemmas.{IsNameList-push}
-use Rattle.tn_shape.specs.declared.members.ObjectKind.TheVariants.{Trade as TradeObject}
+use Rattle.tn_read_shapes.specs.declared.members.ObjectKind.TheVariants.{Trade as TradeObject}
 use Rattle.tn_read_head.specs.Beside.{with_names}
-use Rattle.tn_shape.specs.Reading.{each, holds}
-use Rattle.tn_shape.specs.Shapes.{text_at, object_at, object_of}
+use Rattle.tn_read_shapes.specs.Reading.{each, holds}
+use Rattle.tn_read_shapes.specs.Shapes.{text_at, object_at, object_of}
 use Rattle.tn_read_head.specs.Naming.{NamedTrades, name_at, new_name, firm_name, one_firm_name, trade_name, ends_at, one_trade}
 use Rattle.tn_read_references.specs.References.{firm_at}
 use Rattle.tn_read_references.proofs.ReferenceLeads.{firm_at_leads}
 use Rattle.tn_read_references.specs.Ordered.{ComesNext, AreInOrder, sides_of}
-use Rattle.tn_plain_data.proofs.InOrderLemmas.{AreInOrder-push}
-use Rattle.tn_shape.proofs.LeadLemmas.{Leads, leads_ok, leads_bind, leads_after, leads_each, leads_count, leads_holds, leads_as, is_true_not, apart_from_test}
+use Rattle.tn_model.proofs.InOrderLemmas.{AreInOrder-push}
+use Rattle.tn_read_shapes.proofs.LeadLemmas.{Leads, leads_ok, leads_bind, leads_after, leads_each, leads_count, leads_holds, leads_as, is_true_not, apart_from_test}
 use Rattle.tn_read_head.proofs.BesideLemmas.{leads_beside}
 
 name_leads : (place : List PlaceStep) (value : Option Data) → Leads (λ n. is_name n ≡ true) (name_at place value)

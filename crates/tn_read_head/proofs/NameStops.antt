@@ -3,21 +3,21 @@ use Rattle.std.proofs.Common.{ℕ, ◌≤◌, List, [], ◌∷◌, length, Optio
 use Rattle.std.specs.Prelude.{codes, nat_eq, not}
 use Rattle.serde_json.specs.Data.{Data}
 use Rattle.serde_json.specs.Find.{get}
-use Rattle.tn_base.specs.declared.fault.FaultKind.TheVariants.{BadName, SameName, SelfTrade}
-use Rattle.tn_plain_data.specs.declared.ends.Ends.{Ends}
-use Rattle.tn_plain_data.specs.declared.place.PlaceStep.{PlaceStep}
-use Rattle.tn_plain_data.specs.declared.place.PlaceStep.TheVariants.{Index, Key}
-use Rattle.tn_plain_data.specs.declared.place.Word.TheVariants.{Firms, Trades, Name, Seller, Buyer}
+use Rattle.tn_said.specs.declared.fault.FaultKind.TheVariants.{BadName, SameName, SelfTrade}
+use Rattle.tn_model.specs.declared.ends.Ends.{Ends}
+use Rattle.tn_said.specs.declared.place.PlaceStep.{PlaceStep}
+use Rattle.tn_said.specs.declared.place.PlaceStep.TheVariants.{Index, Key}
+use Rattle.tn_said.specs.declared.place.Word.TheVariants.{Firms, Trades, Name, Seller, Buyer}
 use Rattle.tn_names.specs.Names.{NameLists, has_name, is_name, with_firm, with_trade}
-use Rattle.tn_shape.specs.declared.members.ObjectKind.TheVariants.{Trade as TradeObject}
-use Rattle.tn_shape.specs.Reading.{holds}
-use Rattle.tn_shape.specs.Shapes.{text_at, object_at, object_of}
+use Rattle.tn_read_shapes.specs.declared.members.ObjectKind.TheVariants.{Trade as TradeObject}
+use Rattle.tn_read_shapes.specs.Reading.{holds}
+use Rattle.tn_read_shapes.specs.Shapes.{text_at, object_at, object_of}
 use Rattle.tn_read_head.specs.Naming.{name_at, new_name, firm_name, trade_name, ends_at}
 use Rattle.tn_read_references.specs.References.{firm_at}
 use Rattle.tn_read_references.proofs.ReferenceStops.{firm_at_stops}
 use Rattle.tn_read_references.specs.Ordered.{sides_of}
-use Rattle.tn_shape.proofs.StopLemmas.{StopsPlainly, IsPlain, IsPlainPlace, stops_ok, stops_bind, plain_holds}
-use Rattle.tn_shape.proofs.ShapeStops.{text_stops, object_at_stops, object_stops}
+use Rattle.tn_read_shapes.proofs.StopLemmas.{StopsPlainly, IsPlain, IsPlainPlace, stops_ok, stops_bind, plain_holds}
+use Rattle.tn_read_shapes.proofs.ShapeStops.{text_stops, object_at_stops, object_stops}
 
 module _ (place : List PlaceStep) (plain : IsPlainPlace place) where
   pub name_stops : (value : Option Data) → StopsPlainly (name_at place value)

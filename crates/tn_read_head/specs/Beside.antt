@@ -1,10 +1,10 @@
 -- Reading that tells the names beside a fault.
 use Rattle.std.specs.Prelude.{◌≡◌, ◌≢◌, Result, Ok, Err, All, IfSome}
-use Rattle.tn_base.specs.declared.fault.FaultKind.TheVariants.{TooLong}
-use Rattle.tn_plain_data.specs.declared.said.Fault.{Fault}
+use Rattle.tn_said.specs.declared.fault.FaultKind.TheVariants.{TooLong}
+use Rattle.tn_said.specs.declared.said.Fault.{Fault}
 use Rattle.tn_names.specs.Names.{NameLists, IsNameList}
-use Rattle.tn_shape.specs.declared.error.ReadError.{ReadError}
-use Rattle.tn_shape.specs.declared.error.ReadError.TheVariants.{Fault as FaultIs, OutOfMemory}
+use Rattle.tn_read_shapes.specs.declared.error.ReadError.{ReadError}
+use Rattle.tn_read_shapes.specs.declared.error.ReadError.TheVariants.{Fault as FaultIs, OutOfMemory}
 use Rattle.tn_names.specs.Named.{HasShortIndex, IsAscendingTriple, IsSayableFault}
 
 -- where reading stops: a fault, and the names that were read until then

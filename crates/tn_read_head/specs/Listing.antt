@@ -2,17 +2,17 @@
 use Rattle.std.specs.Prelude.{[], ◌∷◌, codes, Some, option_and_then, Result, Ok}
 use Rattle.serde_json.specs.Data.{Data, Items}
 use Rattle.serde_json.specs.Find.{get, as_number, as_u64}
-use Rattle.tn_base.specs.declared.fault.FaultKind.TheVariants.{Shape}
-use Rattle.tn_plain_data.specs.Limits.{limits_of}
-use Rattle.tn_plain_data.specs.declared.limits.Limits.{Limits}
-use Rattle.tn_plain_data.specs.declared.place.PlaceStep.TheVariants.{Key}
-use Rattle.tn_plain_data.specs.declared.place.Word.TheVariants.{Version, Firms, Trades}
-use Rattle.tn_plain_data.specs.declared.said.Fault.{Fault}
+use Rattle.tn_said.specs.declared.fault.FaultKind.TheVariants.{Shape}
+use Rattle.tn_model.specs.Limits.{limits_of}
+use Rattle.tn_model.specs.declared.limits.Limits.{Limits}
+use Rattle.tn_said.specs.declared.place.PlaceStep.TheVariants.{Key}
+use Rattle.tn_said.specs.declared.place.Word.TheVariants.{Version, Firms, Trades}
+use Rattle.tn_said.specs.declared.said.Fault.{Fault}
 use Rattle.tn_names.specs.Names.{no_names}
-use Rattle.tn_shape.specs.declared.members.ObjectKind.TheVariants.{Top}
+use Rattle.tn_read_shapes.specs.declared.members.ObjectKind.TheVariants.{Top}
 use Rattle.tn_read_head.specs.Beside.{Stop, with_names}
-use Rattle.tn_shape.specs.Reading.{◌>>=◌, each, wanted}
-use Rattle.tn_shape.specs.Shapes.{few_at, object_of}
+use Rattle.tn_read_shapes.specs.Reading.{◌>>=◌, each, wanted}
+use Rattle.tn_read_shapes.specs.Shapes.{few_at, object_of}
 use Rattle.tn_read_references.specs.Ordered.{Listed}
 use Rattle.tn_read_head.specs.Naming.{one_firm_name, one_trade}
 

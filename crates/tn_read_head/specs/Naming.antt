@@ -1,18 +1,18 @@
 -- The names of firms and of trades, and the two ends of each trade.
 use Rattle.std.specs.Prelude.{ℕ, List, codes, Option, Some, Result, Ok, ◌++◌, [], ◌∷◌, length, not, ◌==◌}
-use Rattle.tn_base.specs.declared.fault.FaultKind.TheVariants.{BadName, SameName, SelfTrade}
-use Rattle.tn_plain_data.specs.declared.place.PlaceStep.{PlaceStep}
-use Rattle.tn_plain_data.specs.declared.said.Fault.{Fault}
+use Rattle.tn_said.specs.declared.fault.FaultKind.TheVariants.{BadName, SameName, SelfTrade}
+use Rattle.tn_said.specs.declared.place.PlaceStep.{PlaceStep}
+use Rattle.tn_said.specs.declared.said.Fault.{Fault}
 use Rattle.serde_json.specs.Data.{Data}
 use Rattle.tn_names.specs.Names.{is_name, NameLists, has_name, with_firm, with_trade}
-use Rattle.tn_shape.specs.Reading.{◌>>=◌, holds}
+use Rattle.tn_read_shapes.specs.Reading.{◌>>=◌, holds}
 use Rattle.serde_json.specs.Find.{get}
-use Rattle.tn_plain_data.specs.declared.ends.Ends.{Ends}
-use Rattle.tn_plain_data.specs.declared.place.PlaceStep.TheVariants.{Index, Key}
-use Rattle.tn_plain_data.specs.declared.place.Word.TheVariants.{Firms, Trades, Name, Seller, Buyer}
-use Rattle.tn_shape.specs.declared.members.ObjectKind.TheVariants.{Trade as TradeObject}
+use Rattle.tn_model.specs.declared.ends.Ends.{Ends}
+use Rattle.tn_said.specs.declared.place.PlaceStep.TheVariants.{Index, Key}
+use Rattle.tn_said.specs.declared.place.Word.TheVariants.{Firms, Trades, Name, Seller, Buyer}
+use Rattle.tn_read_shapes.specs.declared.members.ObjectKind.TheVariants.{Trade as TradeObject}
 use Rattle.tn_read_head.specs.Beside.{Stop, with_names}
-use Rattle.tn_shape.specs.Shapes.{text_at, object_at, object_of}
+use Rattle.tn_read_shapes.specs.Shapes.{text_at, object_at, object_of}
 use Rattle.tn_read_references.specs.Ordered.{sides_of}
 use Rattle.tn_read_references.specs.References.{firm_at}
 

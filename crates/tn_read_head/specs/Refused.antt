@@ -4,8 +4,8 @@ use Rattle.tn_names.specs.Names.{NameLists}
 use Rattle.tn_read_head.specs.declared.refusal.DocRefusal.{DocRefusal}
 use Rattle.tn_read_head.specs.declared.refusal.DocRefusal.TheVariants.{Fault, OutOfMemory}
 use Rattle.tn_read_head.specs.Beside.{Stop}
-use Rattle.tn_shape.specs.declared.error.ReadError.{ReadError}
-use Rattle.tn_shape.specs.declared.error.ReadError.TheVariants.{Fault as FaultIs, OutOfMemory as OutOfMemoryIs}
+use Rattle.tn_read_shapes.specs.declared.error.ReadError.{ReadError}
+use Rattle.tn_read_shapes.specs.declared.error.ReadError.TheVariants.{Fault as FaultIs, OutOfMemory as OutOfMemoryIs}
 
 -- the refusal where reading failed beside these names
 abbrev pub refusal_of : NameLists → ReadError → DocRefusal

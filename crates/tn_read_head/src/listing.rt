@@ -3,8 +3,8 @@
 ghost use Rattle.std.specs.Prelude.{◌≡◌, length, IfOk};
 ghost use Rattle.serde_json.specs.View.{view, items_view};
 ghost use Rattle.tn_names.specs.Names.{no_names};
-ghost use Rattle.tn_plain_data.specs.Limits.{AreLimits};
-ghost use Rattle.tn_shape.specs.Reading.{Gives};
+ghost use Rattle.tn_model.specs.Limits.{AreLimits};
+ghost use Rattle.tn_read_shapes.specs.Reading.{Gives};
 ghost use Rattle.tn_read_references.specs.Ordered.{AreTrades};
 ghost use Rattle.tn_read_head.specs.Beside.{GivesBeside};
 ghost use Rattle.tn_read_head.specs.Listing.{limits_at, listed_of};
@@ -15,12 +15,12 @@ use crate::refusal::DocRefusal;
 use crate::trades::read_trades;
 use serde_json::Value;
 use std::alloc::Global;
-use tn_base::FaultKind;
+use tn_model::{Ends, Limits};
 use tn_names::Names;
-use tn_plain_data::PlaceStep::Key;
-use tn_plain_data::{Ends, Limits, Word};
 use tn_read_references::Head;
-use tn_shape::{ObjectKind, ReadError, fault, few, found, member, object_of};
+use tn_read_shapes::{ObjectKind, ReadError, fault, few, found, member, object_of};
+use tn_said::PlaceStep::Key;
+use tn_said::{FaultKind, Word};
 
 /// Reads the head of a document, and gives the list of the firms beside it.
 pub fn read_head<'a>(alloc: Global, top: &'a Value) -> Result<(Head, &'a [Value]), DocRefusal>

@@ -3,18 +3,17 @@
 ghost use Rattle.std.specs.Prelude.{◌≡◌, ◌+◌, ◌<◌, ◌≤◌, length, option_map, true, IfOk, OnOk};
 ghost use Rattle.serde_json.specs.View.{view, items_view};
 ghost use Rattle.tn_names.specs.Names.{is_name};
-ghost use Rattle.tn_plain_data.specs.Limits.{most_firms, most_trades};
-ghost use Rattle.tn_shape.specs.Reading.{Gives, each};
+ghost use Rattle.tn_model.specs.Limits.{most_firms, most_trades};
+ghost use Rattle.tn_read_shapes.specs.Reading.{Gives, each};
 ghost use Rattle.tn_read_head.specs.Beside.{GivesBeside, with_names};
 ghost use Rattle.tn_read_head.specs.Naming.{firm_name, name_at, one_firm_name, trade_name};
 
 use serde_json::Value;
 use std::alloc::Global;
-use tn_base::FaultKind;
 use tn_names::{Names, is_name};
-use tn_plain_data::PlaceStep::Key;
-use tn_plain_data::{PlaceStep, Word};
-use tn_shape::{ObjectKind, ReadError, fault, member, object, object_of, require, text};
+use tn_read_shapes::{ObjectKind, ReadError, fault, member, object, object_of, require, text};
+use tn_said::PlaceStep::Key;
+use tn_said::{FaultKind, PlaceStep, Word};
 
 /// Puts the names of the firms to the names.
 pub(crate) fn read_firm_names(

@@ -5,8 +5,8 @@ ghost use Rattle.tn_read_head.specs.declared.refusal.DocRefusal.TheVariants.{Out
 ghost use Rattle.tn_read_head.specs.Refused.{refusal_of};
 
 use tn_names::Names;
-use tn_plain_data::Fault;
-use tn_shape::ReadError;
+use tn_read_shapes::ReadError;
+use tn_said::Fault;
 
 /// Why no document is read.
 #[derive(Drop)]

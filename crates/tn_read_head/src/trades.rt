@@ -2,8 +2,8 @@
 
 ghost use Rattle.std.specs.Prelude.{◌≡◌, ◌+◌, ◌<◌, ◌≤◌, ◌++◌, [], ◌∷◌, length, IfOk, OnOk};
 ghost use Rattle.serde_json.specs.View.{view, items_view};
-ghost use Rattle.tn_plain_data.specs.Limits.{most_trades};
-ghost use Rattle.tn_shape.specs.Reading.{Gives, each};
+ghost use Rattle.tn_model.specs.Limits.{most_trades};
+ghost use Rattle.tn_read_shapes.specs.Reading.{Gives, each};
 ghost use Rattle.tn_read_references.specs.Ordered.{AreInOrder, ComesNext};
 ghost use Rattle.tn_read_head.specs.Beside.{GivesBeside};
 ghost use Rattle.tn_read_head.specs.Naming.{ends_at, one_trade};
@@ -11,12 +11,12 @@ ghost use Rattle.tn_read_head.specs.Naming.{ends_at, one_trade};
 use crate::names::read_trade_name;
 use serde_json::Value;
 use std::alloc::Global;
-use tn_base::FaultKind;
+use tn_model::Ends;
 use tn_names::Names;
-use tn_plain_data::PlaceStep::Key;
-use tn_plain_data::{Ends, PlaceStep, Word};
 use tn_read_references::{count_own, firm};
-use tn_shape::{ReadError, member, require};
+use tn_read_shapes::{ReadError, member, require};
+use tn_said::PlaceStep::Key;
+use tn_said::{FaultKind, PlaceStep, Word};
 
 /// Reads the trades, and puts their names to the names.
 pub(crate) fn read_trades(

@@ -8,16 +8,16 @@ use Rattle.serde_json.specs.Data.{Data, Items, no_items, item}
 use Rattle.serde_json.specs.Find.{as_array, get, get_item}
 use Rattle.tn_base.specs.Sets.{has, size, toggle}
 use Rattle.tn_base.proofs.SetLemmas.{has-toggle_other, has-toggle_same, has-zero}
-use Rattle.tn_base.specs.declared.fault.FaultKind.TheVariants.{Shape}
-use Rattle.tn_plain_data.specs.declared.contract.Contract.{Contract}
-use Rattle.tn_plain_data.specs.declared.place.PlaceStep.{PlaceStep}
-use Rattle.tn_plain_data.specs.declared.place.PlaceStep.TheVariants.{Index, Key}
-use Rattle.tn_plain_data.specs.declared.place.Word.TheVariants.{Arrangement}
+use Rattle.tn_said.specs.declared.fault.FaultKind.TheVariants.{Shape}
+use Rattle.tn_model.specs.declared.contract.Contract.{Contract}
+use Rattle.tn_said.specs.declared.place.PlaceStep.{PlaceStep}
+use Rattle.tn_said.specs.declared.place.PlaceStep.TheVariants.{Index, Key}
+use Rattle.tn_said.specs.declared.place.Word.TheVariants.{Arrangement}
 use Rattle.tn_names.specs.Names.{number_of}
-use Rattle.tn_shape.specs.declared.members.ObjectKind.TheVariants.{Arrangement as ArrangementObject}
-use Rattle.tn_shape.specs.Reading.{each, wanted}
-use Rattle.tn_shape.specs.Shapes.{list_at, object_of}
-use Rattle.tn_shape.proofs.LeadLemmas.{Leads, leads_after, leads_as, leads_bind, leads_both, leads_ok, leads_wanted}
+use Rattle.tn_read_shapes.specs.declared.members.ObjectKind.TheVariants.{Arrangement as ArrangementObject}
+use Rattle.tn_read_shapes.specs.Reading.{each, wanted}
+use Rattle.tn_read_shapes.specs.Shapes.{list_at, object_of}
+use Rattle.tn_read_shapes.proofs.LeadLemmas.{Leads, leads_after, leads_as, leads_bind, leads_both, leads_ok, leads_wanted}
 use Rattle.tn_read_references.specs.Ordered.{Listed}
 use Rattle.tn_read_references.specs.References.{new_trade}
 use Rattle.tn_read_references.proofs.EntryLeads.{AreNumbers}

@@ -3,14 +3,14 @@ use Rattle.std.proofs.Common.{ℕ, ◌≤◌, List, [], ◌∷◌, length, Some,
 use Rattle.std.specs.Prelude.{codes}
 use Rattle.serde_json.specs.Data.{Data}
 use Rattle.serde_json.specs.Find.{get}
-use Rattle.tn_base.specs.declared.fault.FaultKind.TheVariants.{Shape}
-use Rattle.tn_plain_data.specs.declared.place.PlaceStep.TheVariants.{Key}
-use Rattle.tn_plain_data.specs.declared.place.Word.TheVariants.{Arrangement}
-use Rattle.tn_shape.specs.declared.members.ObjectKind.TheVariants.{Arrangement as ArrangementObject}
-use Rattle.tn_shape.specs.Reading.{each, wanted}
-use Rattle.tn_shape.specs.Shapes.{list_at, object_of}
-use Rattle.tn_shape.proofs.ShapeStops.{list_stops, object_stops}
-use Rattle.tn_shape.proofs.StopLemmas.{IsPlain, Stops, StopsPlainly, plain_wanted, stops_bind, stops_ok}
+use Rattle.tn_said.specs.declared.fault.FaultKind.TheVariants.{Shape}
+use Rattle.tn_said.specs.declared.place.PlaceStep.TheVariants.{Key}
+use Rattle.tn_said.specs.declared.place.Word.TheVariants.{Arrangement}
+use Rattle.tn_read_shapes.specs.declared.members.ObjectKind.TheVariants.{Arrangement as ArrangementObject}
+use Rattle.tn_read_shapes.specs.Reading.{each, wanted}
+use Rattle.tn_read_shapes.specs.Shapes.{list_at, object_of}
+use Rattle.tn_read_shapes.proofs.ShapeStops.{list_stops, object_stops}
+use Rattle.tn_read_shapes.proofs.StopLemmas.{IsPlain, Stops, StopsPlainly, plain_wanted, stops_bind, stops_ok}
 use Rattle.tn_read_references.specs.Ordered.{Listed}
 use Rattle.tn_read_references.proofs.ToldLemmas.{IsTold, told_from_plain}
 use Rattle.tn_read_parts.specs.Lists.{one_on, prices_of}

@@ -7,17 +7,17 @@ use Rattle.std.proofs.lemmas.Slice.Eq.{bytes_eq-Decides}
 use Rattle.serde_json.specs.Data.{Data, array, Items, no_items, item}
 use Rattle.serde_json.specs.Events.{items_len}
 use Rattle.serde_json.specs.Find.{as_array, as_str, get}
-use Rattle.tn_base.specs.declared.fault.FaultKind.TheVariants.{Limit, Shape, UnknownFirm}
-use Rattle.tn_plain_data.specs.declared.place.PlaceStep.{PlaceStep}
-use Rattle.tn_plain_data.specs.declared.place.PlaceStep.TheVariants.{Index, Key}
-use Rattle.tn_plain_data.specs.declared.place.Word.TheVariants.{Edits}
-use Rattle.tn_plain_data.specs.declared.session.Edit.{Edit}
-use Rattle.tn_plain_data.specs.declared.session.Edit.TheVariants.{Join as JoinOf, Leave as LeaveOf}
+use Rattle.tn_said.specs.declared.fault.FaultKind.TheVariants.{Limit, Shape, UnknownFirm}
+use Rattle.tn_said.specs.declared.place.PlaceStep.{PlaceStep}
+use Rattle.tn_said.specs.declared.place.PlaceStep.TheVariants.{Index, Key}
+use Rattle.tn_said.specs.declared.place.Word.TheVariants.{Edits}
+use Rattle.tn_said.specs.declared.session.Edit.{Edit}
+use Rattle.tn_said.specs.declared.session.Edit.TheVariants.{Join as JoinOf, Leave as LeaveOf}
 use Rattle.tn_names.specs.Names.{NameLists, number_of}
 use Rattle.tn_names.proofs.NameLemmas.{push_cases}
-use Rattle.tn_shape.specs.Reading.{◌>>=◌, each, holds, wanted}
-use Rattle.tn_shape.specs.Shapes.{few_at, list_at, text_at, two_at}
-use Rattle.tn_shape.proofs.LeadLemmas.{Leads, leads_after, leads_as, leads_bind, leads_both, leads_count, leads_ok, leads_wanted}
+use Rattle.tn_read_shapes.specs.Reading.{◌>>=◌, each, holds, wanted}
+use Rattle.tn_read_shapes.specs.Shapes.{few_at, list_at, text_at, two_at}
+use Rattle.tn_read_shapes.proofs.LeadLemmas.{Leads, leads_after, leads_as, leads_bind, leads_both, leads_count, leads_ok, leads_wanted}
 use Rattle.tn_read_references.specs.Ordered.{Listed}
 use Rattle.tn_read_references.specs.References.{firm_at, trade_at}
 use Rattle.tn_read_parts.specs.declared.edits.Change.{Change}

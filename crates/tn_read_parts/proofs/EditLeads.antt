@@ -6,25 +6,25 @@ use Rattle.std.proofs.lemmas.List.Elements.{All-nil, All-push}
 use Rattle.serde_json.specs.Data.{Data}
 use Rattle.serde_json.specs.Events.{items_len}
 use Rattle.serde_json.specs.Find.{get}
-use Rattle.tn_base.specs.declared.fault.FaultKind.TheVariants.{Shape}
-use Rattle.tn_plain_data.specs.Limits.{AreLimits}
-use Rattle.tn_plain_data.specs.declared.session.Edit.{Edit}
-use Rattle.tn_plain_data.specs.declared.session.Edit.TheVariants.{Join as JoinOf, Leave as LeaveOf}
-use Rattle.tn_plain_data.specs.declared.place.PlaceStep.{PlaceStep}
-use Rattle.tn_plain_data.specs.declared.place.PlaceStep.TheVariants.{Index, Key}
-use Rattle.tn_plain_data.specs.declared.place.Word.TheVariants.{Edits}
+use Rattle.tn_said.specs.declared.fault.FaultKind.TheVariants.{Shape}
+use Rattle.tn_model.specs.Limits.{AreLimits}
+use Rattle.tn_said.specs.declared.session.Edit.{Edit}
+use Rattle.tn_said.specs.declared.session.Edit.TheVariants.{Join as JoinOf, Leave as LeaveOf}
+use Rattle.tn_said.specs.declared.place.PlaceStep.{PlaceStep}
+use Rattle.tn_said.specs.declared.place.PlaceStep.TheVariants.{Index, Key}
+use Rattle.tn_said.specs.declared.place.Word.TheVariants.{Edits}
 use Rattle.tn_names.specs.Names.{NameLists}
-use Rattle.tn_shape.specs.Reading.{◌>>=◌, each, wanted}
-use Rattle.tn_shape.specs.Shapes.{few_at, text_at, two_at}
-use Rattle.tn_shape.proofs.LeadLemmas.{Leads, leads_ok, leads_bind, leads_after, leads_as, leads_both, leads_count, leads_each}
-use Rattle.tn_shape.proofs.ShapeLeads.{few_lead}
+use Rattle.tn_read_shapes.specs.Reading.{◌>>=◌, each, wanted}
+use Rattle.tn_read_shapes.specs.Shapes.{few_at, text_at, two_at}
+use Rattle.tn_read_shapes.proofs.LeadLemmas.{Leads, leads_ok, leads_bind, leads_after, leads_as, leads_both, leads_count, leads_each}
+use Rattle.tn_read_shapes.proofs.ShapeLeads.{few_lead}
 use Rattle.tn_read_references.specs.Ordered.{Listed}
 use Rattle.tn_read_references.specs.References.{firm_at, trade_at}
 use Rattle.tn_read_references.proofs.ReferenceLeads.{firm_at_leads, trade_leads}
 use Rattle.tn_read_parts.specs.declared.edits.Change.{Change}
 use Rattle.tn_read_parts.specs.declared.edits.Change.TheVariants.{Admit, Bar, Join, Leave}
 use Rattle.tn_read_parts.specs.Edited.{admit_of, all_trades, bar_of, change_named, edit_at, edit_of, edit_place, edits_of, one_edit, trade_or_all}
-use Rattle.tn_plain_data.specs.Edits.{AreEdits, IsKnownEdit}
+use Rattle.tn_said.specs.Edits.{AreEdits, IsKnownEdit}
 
 module _ (names : NameLists) where
   abbrev IsKnown : Edit → Type 0

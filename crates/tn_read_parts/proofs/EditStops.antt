@@ -4,20 +4,20 @@ use Rattle.std.specs.Prelude.{codes, bytes_eq}
 use Rattle.serde_json.specs.Data.{Data}
 use Rattle.serde_json.specs.Events.{items_len}
 use Rattle.serde_json.specs.Find.{get}
-use Rattle.tn_base.specs.declared.fault.FaultKind.TheVariants.{Shape}
-use Rattle.tn_plain_data.specs.Limits.{AreLimits, most_edits}
-use Rattle.tn_plain_data.specs.declared.session.Edit.{Edit}
-use Rattle.tn_plain_data.specs.declared.session.Edit.TheVariants.{Join as JoinOf, Leave as LeaveOf}
-use Rattle.tn_plain_data.specs.declared.place.PlaceStep.{PlaceStep}
-use Rattle.tn_plain_data.specs.declared.place.PlaceStep.TheVariants.{Index, Key}
-use Rattle.tn_plain_data.specs.declared.place.Word.TheVariants.{Edits}
+use Rattle.tn_said.specs.declared.fault.FaultKind.TheVariants.{Shape}
+use Rattle.tn_model.specs.Limits.{AreLimits, most_edits}
+use Rattle.tn_said.specs.declared.session.Edit.{Edit}
+use Rattle.tn_said.specs.declared.session.Edit.TheVariants.{Join as JoinOf, Leave as LeaveOf}
+use Rattle.tn_said.specs.declared.place.PlaceStep.{PlaceStep}
+use Rattle.tn_said.specs.declared.place.PlaceStep.TheVariants.{Index, Key}
+use Rattle.tn_said.specs.declared.place.Word.TheVariants.{Edits}
 use Rattle.tn_names.specs.Names.{NameLists}
-use Rattle.tn_shape.specs.Reading.{◌>>=◌, wanted}
-use Rattle.tn_shape.specs.Shapes.{few_at, text_at, two_at}
-use Rattle.tn_shape.proofs.LeadLemmas.{leads_as}
-use Rattle.tn_shape.proofs.ShapeLeads.{few_lead}
-use Rattle.tn_shape.proofs.ShapeStops.{few_stops, text_stops, two_stops}
-use Rattle.tn_shape.proofs.StopLemmas.{IsPlain, IsPlainPlace, StopsPlainly, plain_wanted, stops_after, stops_bind, stops_each_few, stops_ok}
+use Rattle.tn_read_shapes.specs.Reading.{◌>>=◌, wanted}
+use Rattle.tn_read_shapes.specs.Shapes.{few_at, text_at, two_at}
+use Rattle.tn_read_shapes.proofs.LeadLemmas.{leads_as}
+use Rattle.tn_read_shapes.proofs.ShapeLeads.{few_lead}
+use Rattle.tn_read_shapes.proofs.ShapeStops.{few_stops, text_stops, two_stops}
+use Rattle.tn_read_shapes.proofs.StopLemmas.{IsPlain, IsPlainPlace, StopsPlainly, plain_wanted, stops_after, stops_bind, stops_each_few, stops_ok}
 use Rattle.tn_read_references.specs.Ordered.{Listed}
 use Rattle.tn_read_references.specs.References.{firm_at, trade_at}
 use Rattle.tn_read_references.proofs.ReferenceStops.{firm_at_stops, trade_at_stops}

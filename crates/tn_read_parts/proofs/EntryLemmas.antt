@@ -9,18 +9,18 @@ use Rattle.serde_json.specs.Data.{Data, null, boolean, number, string, array, ob
 use Rattle.serde_json.specs.Find.{as_array, as_i64, as_number, as_str, get_item}
 use Rattle.tn_base.specs.Sets.{has, size, toggle}
 use Rattle.tn_base.proofs.SetLemmas.{has-toggle_other, has-toggle_same, has-zero}
-use Rattle.tn_base.specs.declared.fault.FaultKind.TheVariants.{AmountRange, SameTrade, Shape, UnknownTrade}
-use Rattle.tn_plain_data.specs.declared.contract.Contract.{Contract}
-use Rattle.tn_plain_data.specs.declared.place.PlaceStep.{PlaceStep}
-use Rattle.tn_plain_data.specs.declared.place.PlaceStep.TheVariants.{Index}
-use Rattle.tn_plain_data.specs.Prices.{price_at}
-use Rattle.tn_plain_data.specs.Choices.{contracts_of}
-use Rattle.tn_plain_data.proofs.ContractLemmas.{contracts_are, contracts_have}
+use Rattle.tn_said.specs.declared.fault.FaultKind.TheVariants.{AmountRange, SameTrade, Shape, UnknownTrade}
+use Rattle.tn_model.specs.declared.contract.Contract.{Contract}
+use Rattle.tn_said.specs.declared.place.PlaceStep.{PlaceStep}
+use Rattle.tn_said.specs.declared.place.PlaceStep.TheVariants.{Index}
+use Rattle.tn_model.specs.Prices.{price_at}
+use Rattle.tn_model.specs.Choices.{contracts_of}
+use Rattle.tn_model.proofs.ContractLemmas.{contracts_are, contracts_have}
 use Rattle.tn_names.specs.Names.{number_of}
 use Rattle.tn_names.proofs.NameLemmas.{name_at_number}
-use Rattle.tn_shape.specs.Reading.{each, holds, wanted}
-use Rattle.tn_shape.specs.Shapes.{list_at, number_at, number_in, text_at, two_at, two_of, whole_at}
-use Rattle.tn_shape.proofs.LeadLemmas.{Leads, is_true_not, leads_after, leads_as, leads_bind, leads_holds, leads_ok, leads_wanted}
+use Rattle.tn_read_shapes.specs.Reading.{each, holds, wanted}
+use Rattle.tn_read_shapes.specs.Shapes.{list_at, number_at, number_in, text_at, two_at, two_of, whole_at}
+use Rattle.tn_read_shapes.proofs.LeadLemmas.{Leads, is_true_not, leads_after, leads_as, leads_bind, leads_holds, leads_ok, leads_wanted}
 use Rattle.tn_read_references.specs.References.{new_trade, trade_at}
 use Rattle.tn_read_references.specs.Entries.{Numbered, entry_of, one_entry}
 use Rattle.tn_read_parts.specs.Laws.{IsSaid, IsNameOf, SaysContract}

@@ -5,10 +5,10 @@ use Rattle.std.proofs.lemmas.Nat.{pow_pos}
 use Rattle.serde_json.specs.Data.{Data, Items}
 use Rattle.tn_base.specs.Sets.{toggle, size}
 use Rattle.tn_base.proofs.SetLemmas.{toggle_within}
-use Rattle.tn_plain_data.specs.declared.place.PlaceStep.{PlaceStep}
-use Rattle.tn_plain_data.specs.declared.place.PlaceStep.TheVariants.{Index}
-use Rattle.tn_shape.specs.Reading.{each}
-use Rattle.tn_shape.proofs.LeadLemmas.{Leads, leads_ok, leads_bind, leads_after, leads_each}
+use Rattle.tn_said.specs.declared.place.PlaceStep.{PlaceStep}
+use Rattle.tn_said.specs.declared.place.PlaceStep.TheVariants.{Index}
+use Rattle.tn_read_shapes.specs.Reading.{each}
+use Rattle.tn_read_shapes.proofs.LeadLemmas.{Leads, leads_ok, leads_bind, leads_after, leads_each}
 use Rattle.tn_read_references.specs.References.{new_trade}
 use Rattle.tn_read_references.proofs.ReferenceLeads.{new_trade_leads}
 use Rattle.tn_read_references.proofs.EntryLeads.{AreNumbers, zeros, entries_lead}

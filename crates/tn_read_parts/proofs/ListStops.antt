@@ -6,12 +6,12 @@ use Rattle.std.proofs.lemmas.Nat.{pow_pos}
 use Rattle.std.proofs.lemmas.Option.{none-some, same_Some}
 use Rattle.serde_json.specs.Data.{Data, Items}
 use Rattle.tn_base.specs.Sets.{has, size, toggle}
-use Rattle.tn_base.specs.declared.fault.FaultKind.TheVariants.{PriceMissing}
-use Rattle.tn_plain_data.specs.declared.place.PlaceStep.{PlaceStep}
-use Rattle.tn_plain_data.specs.declared.place.PlaceStep.TheVariants.{Index, Trade}
+use Rattle.tn_said.specs.declared.fault.FaultKind.TheVariants.{PriceMissing}
+use Rattle.tn_said.specs.declared.place.PlaceStep.{PlaceStep}
+use Rattle.tn_said.specs.declared.place.PlaceStep.TheVariants.{Index, Trade}
 use Rattle.tn_names.specs.Named.{HasShortIndex, IsNamedStep, IsSayableFault}
-use Rattle.tn_shape.specs.Reading.{each, fault}
-use Rattle.tn_shape.proofs.StopLemmas.{IsPlain, IsPlainPlace, Stops, StopsPlainly, plain_within, stops_bind, stops_each, stops_err, stops_ok}
+use Rattle.tn_read_shapes.specs.Reading.{each, fault}
+use Rattle.tn_read_shapes.proofs.StopLemmas.{IsPlain, IsPlainPlace, Stops, StopsPlainly, plain_within, stops_bind, stops_each, stops_err, stops_ok}
 use Rattle.tn_read_references.specs.References.{new_trade}
 use Rattle.tn_read_references.proofs.ReferenceLeads.{new_trade_leads}
 use Rattle.tn_read_references.proofs.ReferenceStops.{RefersPlainly, entries_stop, few_members, new_trade_stops}

@@ -3,12 +3,12 @@ use Rattle.std.proofs.Common.{◌≡◌, ℕ, ◌&&◌, pos, List, Option, Some}
 use Rattle.std.specs.Prelude.{codes, int_le, option_and_then}
 use Rattle.serde_json.specs.Data.{Data}
 use Rattle.serde_json.specs.Find.{get, as_array, as_i64, as_number}
-use Rattle.tn_base.specs.declared.fault.FaultKind.TheVariants.{BadOver, Shape}
-use Rattle.tn_plain_data.specs.declared.place.PlaceStep.{PlaceStep}
-use Rattle.tn_shape.specs.declared.members.ObjectKind.TheVariants.{Outcome as OutcomeObject}
-use Rattle.tn_shape.specs.Reading.{holds, wanted}
-use Rattle.tn_shape.specs.Shapes.{list_at, object_of, whole_at}
-use Rattle.tn_shape.proofs.LeadLemmas.{Leads, leads_after, leads_bind, leads_ok, leads_wanted}
+use Rattle.tn_said.specs.declared.fault.FaultKind.TheVariants.{BadOver, Shape}
+use Rattle.tn_said.specs.declared.place.PlaceStep.{PlaceStep}
+use Rattle.tn_read_shapes.specs.declared.members.ObjectKind.TheVariants.{Outcome as OutcomeObject}
+use Rattle.tn_read_shapes.specs.Reading.{holds, wanted}
+use Rattle.tn_read_shapes.specs.Shapes.{list_at, object_of, whole_at}
+use Rattle.tn_read_shapes.proofs.LeadLemmas.{Leads, leads_after, leads_bind, leads_ok, leads_wanted}
 use Rattle.tn_read_references.specs.Ordered.{Listed}
 use Rattle.tn_read_parts.specs.Laws.{SaysOutcome, OutcomesHaveTheirEntries}
 use Rattle.tn_read_parts.specs.Lists.{contracts_at}

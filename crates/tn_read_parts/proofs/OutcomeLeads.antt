@@ -5,17 +5,17 @@ use Rattle.std.proofs.lemmas.Bool.{and_parts}
 use Rattle.std.proofs.lemmas.Int.{ints}
 use Rattle.serde_json.specs.Data.{Data, Items}
 use Rattle.serde_json.specs.Find.{get}
-use Rattle.tn_base.specs.declared.fault.FaultKind.TheVariants.{Shape, BadOver}
-use Rattle.tn_plain_data.specs.declared.place.PlaceStep.{PlaceStep}
-use Rattle.tn_plain_data.specs.Prices.{price_at}
-use Rattle.tn_plain_data.specs.Choices.{contracts_of}
-use Rattle.tn_plain_data.specs.Limits.{AreLimits, most_numerator}
-use Rattle.tn_plain_data.specs.OutcomeLimits.{AreContractsWithin, IsOutcomeWithin}
-use Rattle.tn_plain_data.proofs.ContractLemmas.{contracts_within}
-use Rattle.tn_shape.specs.declared.members.ObjectKind.TheVariants.{Outcome as OutcomeObject}
-use Rattle.tn_shape.specs.Reading.{wanted, holds}
-use Rattle.tn_shape.specs.Shapes.{list_at, object_of, whole_at}
-use Rattle.tn_shape.proofs.LeadLemmas.{Leads, leads_ok, leads_bind, leads_after, leads_holds}
+use Rattle.tn_said.specs.declared.fault.FaultKind.TheVariants.{Shape, BadOver}
+use Rattle.tn_said.specs.declared.place.PlaceStep.{PlaceStep}
+use Rattle.tn_model.specs.Prices.{price_at}
+use Rattle.tn_model.specs.Choices.{contracts_of}
+use Rattle.tn_model.specs.Limits.{AreLimits, most_numerator}
+use Rattle.tn_model.specs.OutcomeLimits.{AreContractsWithin, IsOutcomeWithin}
+use Rattle.tn_model.proofs.ContractLemmas.{contracts_within}
+use Rattle.tn_read_shapes.specs.declared.members.ObjectKind.TheVariants.{Outcome as OutcomeObject}
+use Rattle.tn_read_shapes.specs.Reading.{wanted, holds}
+use Rattle.tn_read_shapes.specs.Shapes.{list_at, object_of, whole_at}
+use Rattle.tn_read_shapes.proofs.LeadLemmas.{Leads, leads_ok, leads_bind, leads_after, leads_holds}
 use Rattle.tn_read_references.specs.Ordered.{Listed}
 use Rattle.tn_read_references.proofs.EntryLeads.{AreNumbers, within_more}
 use Rattle.tn_read_parts.specs.Lists.{named_prices, contracts_at}

@@ -3,13 +3,13 @@ use Rattle.std.proofs.Common.{ℕ, ◌≤◌, ◌&&◌, pos, List, length, Optio
 use Rattle.std.specs.Prelude.{codes, int_le}
 use Rattle.serde_json.specs.Data.{Data, Items}
 use Rattle.serde_json.specs.Find.{get}
-use Rattle.tn_base.specs.declared.fault.FaultKind.TheVariants.{Shape, BadOver}
-use Rattle.tn_plain_data.specs.declared.place.PlaceStep.{PlaceStep}
-use Rattle.tn_shape.specs.declared.members.ObjectKind.TheVariants.{Outcome as OutcomeObject}
-use Rattle.tn_shape.specs.Reading.{wanted, holds}
-use Rattle.tn_shape.specs.Shapes.{list_at, object_of, whole_at}
-use Rattle.tn_shape.proofs.ShapeStops.{list_stops, object_stops, whole_stops}
-use Rattle.tn_shape.proofs.StopLemmas.{IsPlain, IsPlainPlace, StopsPlainly, plain_holds, plain_wanted, stops_bind, stops_ok}
+use Rattle.tn_said.specs.declared.fault.FaultKind.TheVariants.{Shape, BadOver}
+use Rattle.tn_said.specs.declared.place.PlaceStep.{PlaceStep}
+use Rattle.tn_read_shapes.specs.declared.members.ObjectKind.TheVariants.{Outcome as OutcomeObject}
+use Rattle.tn_read_shapes.specs.Reading.{wanted, holds}
+use Rattle.tn_read_shapes.specs.Shapes.{list_at, object_of, whole_at}
+use Rattle.tn_read_shapes.proofs.ShapeStops.{list_stops, object_stops, whole_stops}
+use Rattle.tn_read_shapes.proofs.StopLemmas.{IsPlain, IsPlainPlace, StopsPlainly, plain_holds, plain_wanted, stops_bind, stops_ok}
 use Rattle.tn_read_references.specs.Ordered.{Listed}
 use Rattle.tn_read_parts.specs.Lists.{named_prices, contracts_at}
 use Rattle.tn_read_parts.specs.Signed.{outcome_place, over_place, contracts_place, over_at, outcome_of}

@@ -3,15 +3,15 @@ use Rattle.std.specs.Prelude.{◌≡◌, ℕ, ◌^◌, ◌<◌, [], ◌∷◌, �
 use Rattle.serde_json.specs.Data.{Data}
 use Rattle.serde_json.specs.Find.{get}
 use Rattle.tn_base.specs.Arcs.{IsAtMost}
-use Rattle.tn_base.specs.declared.fault.FaultKind.TheVariants.{Shape}
-use Rattle.tn_plain_data.specs.Limits.{most_price}
-use Rattle.tn_plain_data.specs.declared.place.PlaceStep.{PlaceStep}
-use Rattle.tn_plain_data.specs.declared.place.PlaceStep.TheVariants.{Key}
-use Rattle.tn_plain_data.specs.declared.place.Word.TheVariants.{Arrangement, On, Prices}
-use Rattle.tn_plain_data.specs.declared.said.Fault.{Fault}
-use Rattle.tn_shape.specs.declared.members.ObjectKind.TheVariants.{Arrangement as ArrangementObject}
-use Rattle.tn_shape.specs.Reading.{◌>>=◌, each, wanted}
-use Rattle.tn_shape.specs.Shapes.{list_at, object_of}
+use Rattle.tn_said.specs.declared.fault.FaultKind.TheVariants.{Shape}
+use Rattle.tn_model.specs.Limits.{most_price}
+use Rattle.tn_said.specs.declared.place.PlaceStep.{PlaceStep}
+use Rattle.tn_said.specs.declared.place.PlaceStep.TheVariants.{Key}
+use Rattle.tn_said.specs.declared.place.Word.TheVariants.{Arrangement, On, Prices}
+use Rattle.tn_said.specs.declared.said.Fault.{Fault}
+use Rattle.tn_read_shapes.specs.declared.members.ObjectKind.TheVariants.{Arrangement as ArrangementObject}
+use Rattle.tn_read_shapes.specs.Reading.{◌>>=◌, each, wanted}
+use Rattle.tn_read_shapes.specs.Shapes.{list_at, object_of}
 use Rattle.tn_read_references.specs.Ordered.{Listed}
 use Rattle.tn_read_parts.specs.Lists.{one_on, prices_of}
 

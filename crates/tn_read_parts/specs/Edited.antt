@@ -3,16 +3,16 @@ use Rattle.std.specs.Prelude.{ℕ, ◌++◌, [], ◌∷◌, List, length, codes,
 use Rattle.std.specs.Str.{bytes_eq}
 use Rattle.serde_json.specs.Data.{Data}
 use Rattle.serde_json.specs.Find.{get}
-use Rattle.tn_base.specs.declared.fault.FaultKind.TheVariants.{Shape}
-use Rattle.tn_plain_data.specs.declared.session.Edit.{Edit}
-use Rattle.tn_plain_data.specs.declared.session.Edit.TheVariants.{Admit, AdmitAll, Bar, BarAll, Join, Leave}
-use Rattle.tn_plain_data.specs.declared.place.PlaceStep.{PlaceStep}
-use Rattle.tn_plain_data.specs.declared.place.PlaceStep.TheVariants.{Index, Key}
-use Rattle.tn_plain_data.specs.declared.place.Word.TheVariants.{Edits}
-use Rattle.tn_plain_data.specs.declared.said.Fault.{Fault}
+use Rattle.tn_said.specs.declared.fault.FaultKind.TheVariants.{Shape}
+use Rattle.tn_said.specs.declared.session.Edit.{Edit}
+use Rattle.tn_said.specs.declared.session.Edit.TheVariants.{Admit, AdmitAll, Bar, BarAll, Join, Leave}
+use Rattle.tn_said.specs.declared.place.PlaceStep.{PlaceStep}
+use Rattle.tn_said.specs.declared.place.PlaceStep.TheVariants.{Index, Key}
+use Rattle.tn_said.specs.declared.place.Word.TheVariants.{Edits}
+use Rattle.tn_said.specs.declared.said.Fault.{Fault}
 use Rattle.tn_names.specs.Names.{NameLists}
-use Rattle.tn_shape.specs.Reading.{◌>>=◌, each, wanted}
-use Rattle.tn_shape.specs.Shapes.{few_at, text_at, two_at}
+use Rattle.tn_read_shapes.specs.Reading.{◌>>=◌, each, wanted}
+use Rattle.tn_read_shapes.specs.Shapes.{few_at, text_at, two_at}
 use Rattle.tn_read_references.specs.Ordered.{Listed}
 use Rattle.tn_read_references.specs.References.{firm_at, trade_at}
 use Rattle.tn_read_parts.specs.declared.edits.Change.{Change}

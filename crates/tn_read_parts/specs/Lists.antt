@@ -2,14 +2,14 @@
 use Rattle.std.specs.Prelude.{ℕ, zero, suc, ◌+◌, ◌++◌, [], ◌∷◌, ℤ, pos, List, length, replicate, if◌then◌else◌, Option, Some, None, Result, Ok, Err}
 use Rattle.serde_json.specs.Data.{Data, Items}
 use Rattle.tn_base.specs.Sets.{has, toggle, size}
-use Rattle.tn_base.specs.declared.fault.FaultKind.TheVariants.{PriceMissing}
-use Rattle.tn_plain_data.specs.Prices.{price_at}
-use Rattle.tn_plain_data.specs.Choices.{contracts_of}
-use Rattle.tn_plain_data.specs.declared.contract.Contract.{Contract}
-use Rattle.tn_plain_data.specs.declared.place.PlaceStep.{PlaceStep}
-use Rattle.tn_plain_data.specs.declared.place.PlaceStep.TheVariants.{Index, Trade}
-use Rattle.tn_plain_data.specs.declared.said.Fault.{Fault}
-use Rattle.tn_shape.specs.Reading.{◌>>=◌, fault, each}
+use Rattle.tn_said.specs.declared.fault.FaultKind.TheVariants.{PriceMissing}
+use Rattle.tn_model.specs.Prices.{price_at}
+use Rattle.tn_model.specs.Choices.{contracts_of}
+use Rattle.tn_model.specs.declared.contract.Contract.{Contract}
+use Rattle.tn_said.specs.declared.place.PlaceStep.{PlaceStep}
+use Rattle.tn_said.specs.declared.place.PlaceStep.TheVariants.{Index, Trade}
+use Rattle.tn_said.specs.declared.said.Fault.{Fault}
+use Rattle.tn_read_shapes.specs.Reading.{◌>>=◌, fault, each}
 use Rattle.tn_read_references.specs.References.{new_trade}
 use Rattle.tn_read_references.specs.Entries.{Numbered, entry_of, one_entry}
 use Rattle.tn_read_parts.specs.declared.lists.ListAt.{ListAt}

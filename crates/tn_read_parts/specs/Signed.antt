@@ -2,15 +2,15 @@
 use Rattle.std.specs.Prelude.{ℕ, [], ◌∷◌, ℤ, pos, int_le, List, codes, ◌&&◌, Option, Some, Result, Ok}
 use Rattle.serde_json.specs.Data.{Data}
 use Rattle.serde_json.specs.Find.{get}
-use Rattle.tn_base.specs.declared.fault.FaultKind.TheVariants.{Shape, BadOver}
-use Rattle.tn_plain_data.specs.declared.contract.Outcome.{Outcome}
-use Rattle.tn_plain_data.specs.declared.place.PlaceStep.{PlaceStep}
-use Rattle.tn_plain_data.specs.declared.place.PlaceStep.TheVariants.{Key}
-use Rattle.tn_plain_data.specs.declared.place.Word.TheVariants.{Outcome as OutcomeWord, Over, Contracts}
-use Rattle.tn_plain_data.specs.declared.said.Fault.{Fault}
-use Rattle.tn_shape.specs.declared.members.ObjectKind.TheVariants.{Outcome as OutcomeObject}
-use Rattle.tn_shape.specs.Reading.{◌>>=◌, wanted, holds}
-use Rattle.tn_shape.specs.Shapes.{list_at, object_of, whole_at}
+use Rattle.tn_said.specs.declared.fault.FaultKind.TheVariants.{Shape, BadOver}
+use Rattle.tn_model.specs.declared.contract.Outcome.{Outcome}
+use Rattle.tn_said.specs.declared.place.PlaceStep.{PlaceStep}
+use Rattle.tn_said.specs.declared.place.PlaceStep.TheVariants.{Key}
+use Rattle.tn_said.specs.declared.place.Word.TheVariants.{Outcome as OutcomeWord, Over, Contracts}
+use Rattle.tn_said.specs.declared.said.Fault.{Fault}
+use Rattle.tn_read_shapes.specs.declared.members.ObjectKind.TheVariants.{Outcome as OutcomeObject}
+use Rattle.tn_read_shapes.specs.Reading.{◌>>=◌, wanted, holds}
+use Rattle.tn_read_shapes.specs.Shapes.{list_at, object_of, whole_at}
 use Rattle.tn_read_references.specs.Ordered.{Listed}
 use Rattle.tn_read_parts.specs.Lists.{contracts_at}
 

@@ -1,17 +1,18 @@
 //! Reads the arrangement.
 
 ghost use Rattle.serde_json.specs.View.{view};
-ghost use Rattle.tn_shape.specs.Reading.{Gives};
+ghost use Rattle.tn_read_shapes.specs.Reading.{Gives};
 ghost use Rattle.tn_read_parts.specs.Arranged.{Arranged, arrangement_of, on_of, trades_on_of};
 
 use crate::lists::{ListAt, read_prices, read_trades};
 use serde_json::Value;
 use std::alloc::Global;
 use tn_base::TradeSet;
-use tn_plain_data::PlaceStep::Key;
-use tn_plain_data::{Arrangement, Prices, Word};
+use tn_model::{Arrangement, Prices};
 use tn_read_references::Head;
-use tn_shape::{ObjectKind, ReadError, list, member, object_of, present};
+use tn_read_shapes::{ObjectKind, ReadError, list, member, object_of, present};
+use tn_said::PlaceStep::Key;
+use tn_said::Word;
 
 /// The arrangement of a document.
 #[tactic(auto, unfolding(crate::specs::Arranged::arrangement_of))]

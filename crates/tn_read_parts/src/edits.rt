@@ -2,17 +2,16 @@
 
 ghost use Rattle.std.specs.Prelude.{◌≡◌, ◌+◌, ◌<◌, ◌≤◌, [], length, OnOk};
 ghost use Rattle.serde_json.specs.View.{view, items_view};
-ghost use Rattle.tn_plain_data.specs.Limits.{most_edits};
-ghost use Rattle.tn_shape.specs.Reading.{Gives, each};
+ghost use Rattle.tn_model.specs.Limits.{most_edits};
+ghost use Rattle.tn_read_shapes.specs.Reading.{Gives, each};
 ghost use Rattle.tn_read_parts.specs.Edited.{admit_of, bar_of, change_named, edit_at, edit_of, edits_of, one_edit, trade_or_all};
 
 use serde_json::Value;
 use std::alloc::Global;
-use tn_base::FaultKind;
-use tn_plain_data::PlaceStep::{Index, Key};
-use tn_plain_data::{Edit, Edits, PlaceStep, Word};
 use tn_read_references::{Head, firm, trade};
-use tn_shape::{ReadError, few, found, member, text, two, value_of_word};
+use tn_read_shapes::{ReadError, few, found, member, text, two, value_of_word};
+use tn_said::PlaceStep::{Index, Key};
+use tn_said::{Edit, Edits, FaultKind, PlaceStep, Word};
 
 /// What an edit does with what it names.
 #[derive(Clone, Copy)]

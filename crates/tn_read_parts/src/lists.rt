@@ -2,19 +2,20 @@
 
 ghost use Rattle.std.specs.Prelude.{◌≡◌, ◌<◌, ◌≤◌, length, IfOk, Some};
 ghost use Rattle.serde_json.specs.View.{view, items_view};
-ghost use Rattle.tn_plain_data.specs.Limits.{most_trades};
-ghost use Rattle.tn_plain_data.specs.Prices.{price_at};
-ghost use Rattle.tn_plain_data.specs.Choices.{contracts_of};
-ghost use Rattle.tn_shape.specs.Reading.{Gives, each};
+ghost use Rattle.tn_model.specs.Limits.{most_trades};
+ghost use Rattle.tn_model.specs.Prices.{price_at};
+ghost use Rattle.tn_model.specs.Choices.{contracts_of};
+ghost use Rattle.tn_read_shapes.specs.Reading.{Gives, each};
 ghost use Rattle.tn_read_parts.specs.Lists.{contracts_at, first_without, list_place, named_prices, one_on, one_price, price_of, prices_of, unless_missing};
 
 use serde_json::Value;
 use std::alloc::Global;
-use tn_base::{FaultKind, OutOfMemory, TradeSet};
-use tn_plain_data::PlaceStep::{Index, Trade};
-use tn_plain_data::{Contract, Contracts, PlaceStep};
+use tn_base::{OutOfMemory, TradeSet};
+use tn_model::{Contract, Contracts};
 use tn_read_references::{Head, new_trade};
-use tn_shape::{ReadError, fault, number, two};
+use tn_read_shapes::{ReadError, fault, number, two};
+use tn_said::PlaceStep::{Index, Trade};
+use tn_said::{FaultKind, PlaceStep};
 
 /// A list that is a member of an extra part.
 #[derive(Clone, Copy)]

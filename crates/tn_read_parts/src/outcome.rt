@@ -2,17 +2,17 @@
 
 ghost use Rattle.std.specs.Prelude.{option_map};
 ghost use Rattle.serde_json.specs.View.{view};
-ghost use Rattle.tn_shape.specs.Reading.{Gives};
+ghost use Rattle.tn_read_shapes.specs.Reading.{Gives};
 ghost use Rattle.tn_read_parts.specs.Signed.{outcome_of, over_at};
 
 use crate::lists::{ListAt, read_contracts};
 use serde_json::Value;
 use std::alloc::Global;
-use tn_base::FaultKind;
-use tn_plain_data::PlaceStep::Key;
-use tn_plain_data::{Outcome, PlaceStep, Word};
+use tn_model::Outcome;
 use tn_read_references::Head;
-use tn_shape::{ObjectKind, ReadError, list, member, object_of, present, require, whole};
+use tn_read_shapes::{ObjectKind, ReadError, list, member, object_of, present, require, whole};
+use tn_said::PlaceStep::Key;
+use tn_said::{FaultKind, PlaceStep, Word};
 
 /// The outcome of a document. Its denominator is read before its contracts.
 #[tactic(auto, unfolding(crate::specs::Signed::outcome_of))]

@@ -5,11 +5,11 @@ use Rattle.std.proofs.lemmas.Option.{none-some, same_Some, slice_get_within}
 use Rattle.std.proofs.lemmas.Bool.{eqb-true}
 use Rattle.tn_base.specs.declared.side.Side.{Side}
 use Rattle.tn_base.specs.declared.side.Side.TheVariants.{Buy, Sell}
-use Rattle.tn_plain_data.specs.declared.ends.Ends.{Ends}
-use Rattle.tn_shape.specs.declared.error.ReadError.{ReadError}
+use Rattle.tn_model.specs.declared.ends.Ends.{Ends}
+use Rattle.tn_read_shapes.specs.declared.error.ReadError.{ReadError}
 use Rattle.tn_read_references.specs.References.{position_in, position_on}
 use Rattle.tn_read_references.specs.Ordered.{side_in, sides_of, AreInOrder}
-use Rattle.tn_plain_data.proofs.InOrderLemmas.{own_side}
+use Rattle.tn_model.proofs.InOrderLemmas.{own_side}
 
 -- the position of an own trade, and its side
 module _ (firms f : ℕ) (es : List Ends) (t : ℕ) (e : Ends) (order : AreInOrder firms es) (is : slice_get es t

@@ -7,13 +7,13 @@ use Rattle.std.proofs.lemmas.List.Elements.{All-set, All-replicate}
 use Rattle.serde_json.specs.Data.{Data, Items}
 use Rattle.tn_base.specs.Arcs.{IsAtMost}
 use Rattle.tn_base.specs.Sets.{toggle, size}
-use Rattle.tn_plain_data.specs.declared.place.PlaceStep.{PlaceStep}
-use Rattle.tn_plain_data.specs.declared.place.PlaceStep.TheVariants.{Index}
-use Rattle.tn_shape.specs.Reading.{each}
-use Rattle.tn_shape.specs.Shapes.{two_at, number_at, number_in}
+use Rattle.tn_said.specs.declared.place.PlaceStep.{PlaceStep}
+use Rattle.tn_said.specs.declared.place.PlaceStep.TheVariants.{Index}
+use Rattle.tn_read_shapes.specs.Reading.{each}
+use Rattle.tn_read_shapes.specs.Shapes.{two_at, number_at, number_in}
 use Rattle.tn_read_references.specs.Entries.{Numbered, Refers, entry_of, one_entry}
-use Rattle.tn_shape.proofs.ShapeLeads.{number_leads}
-use Rattle.tn_shape.proofs.LeadLemmas.{Leads, leads_ok, leads_bind, leads_after, leads_each, leads_as}
+use Rattle.tn_read_shapes.proofs.ShapeLeads.{number_leads}
+use Rattle.tn_read_shapes.proofs.LeadLemmas.{Leads, leads_ok, leads_bind, leads_after, leads_each, leads_as}
 
 -- so many numbers within a limit
 pub record AreNumbers (n limit : ℕ) (numbers : List ℤ) : Type 0 where

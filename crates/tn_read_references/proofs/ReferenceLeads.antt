@@ -7,16 +7,16 @@ use Rattle.serde_json.specs.Data.{Data}
 use Rattle.tn_base.specs.Sets.{has, toggle}
 use Rattle.tn_base.proofs.SetLemmas.{toggle_within}
 use Rattle.tn_base.specs.declared.side.Side.{Side}
-use Rattle.tn_base.specs.declared.fault.FaultKind.TheVariants.{SameTrade, UnknownFirm}
-use Rattle.tn_plain_data.specs.declared.place.PlaceStep.{PlaceStep}
+use Rattle.tn_said.specs.declared.fault.FaultKind.TheVariants.{SameTrade, UnknownFirm}
+use Rattle.tn_said.specs.declared.place.PlaceStep.{PlaceStep}
 use Rattle.tn_names.specs.Names.{number_of}
 use Rattle.tn_names.proofs.NameLemmas.{name_at_number}
-use Rattle.tn_shape.specs.Reading.{holds}
-use Rattle.tn_shape.specs.Shapes.{list_at, text_at}
+use Rattle.tn_read_shapes.specs.Reading.{holds}
+use Rattle.tn_read_shapes.specs.Shapes.{list_at, text_at}
 use Rattle.tn_read_references.specs.Ordered.{Listed, sides_of, AreTrades}
 use Rattle.tn_read_references.specs.References.{position_on, firm_at, trade_at, new_trade, own_position, new_own, own_reference, bundle_at}
 use Rattle.tn_read_references.proofs.EndsLemmas.{position_on-within}
-use Rattle.tn_shape.proofs.LeadLemmas.{Leads, leads_ok, leads_bind, leads_after, leads_each, leads_wanted, leads_as}
+use Rattle.tn_read_shapes.proofs.LeadLemmas.{Leads, leads_ok, leads_bind, leads_after, leads_each, leads_wanted, leads_as}
 
 pub firm_at_leads : (firms : List (List ℕ)) (place : List PlaceStep) (value : Option Data)
     → Leads (λ f. f < length firms) (firm_at firms place value)

@@ -7,20 +7,20 @@ use Rattle.tn_base.specs.Sets.{has, size, toggle}
 use Rattle.tn_base.proofs.SetLemmas.{toggle_within}
 use Rattle.tn_base.proofs.SizeLemmas.{size_le}
 use Rattle.tn_base.specs.declared.side.Side.{Side}
-use Rattle.tn_base.specs.declared.fault.FaultKind.TheVariants.{UnknownFirm, UnknownTrade, NotOwnTrade, SameTrade}
-use Rattle.tn_plain_data.specs.Limits.{most_own_trades}
-use Rattle.tn_plain_data.specs.declared.place.PlaceStep.{PlaceStep}
-use Rattle.tn_plain_data.specs.declared.place.PlaceStep.TheVariants.{Index}
+use Rattle.tn_said.specs.declared.fault.FaultKind.TheVariants.{UnknownFirm, UnknownTrade, NotOwnTrade, SameTrade}
+use Rattle.tn_model.specs.Limits.{most_own_trades}
+use Rattle.tn_said.specs.declared.place.PlaceStep.{PlaceStep}
+use Rattle.tn_said.specs.declared.place.PlaceStep.TheVariants.{Index}
 use Rattle.tn_names.specs.Names.{number_of}
-use Rattle.tn_shape.specs.Reading.{each, holds}
-use Rattle.tn_shape.specs.Shapes.{text_at, list_at, two_at, number_at}
+use Rattle.tn_read_shapes.specs.Reading.{each, holds}
+use Rattle.tn_read_shapes.specs.Shapes.{text_at, list_at, two_at, number_at}
 use Rattle.tn_read_references.specs.Ordered.{Listed, sides_of, AreTrades}
 use Rattle.tn_read_references.specs.References.{position_on, firm_at, trade_at, new_trade, own_position, new_own, own_reference, bundle_at}
 use Rattle.tn_read_references.specs.Entries.{Numbered, Refers, entry_of, one_entry}
-use Rattle.tn_shape.proofs.LeadLemmas.{Leads, leads_ok, leads_bind, leads_after}
+use Rattle.tn_read_shapes.proofs.LeadLemmas.{Leads, leads_ok, leads_bind, leads_after}
 use Rattle.tn_read_references.proofs.ReferenceLeads.{reference_leads}
-use Rattle.tn_shape.proofs.StopLemmas.{StopsPlainly, IsPlain, IsPlainPlace, stops_ok, stops_bind, stops_each, plain_wanted, plain_holds, plain_within}
-use Rattle.tn_shape.proofs.ShapeStops.{text_stops, list_stops, two_stops, number_stops}
+use Rattle.tn_read_shapes.proofs.StopLemmas.{StopsPlainly, IsPlain, IsPlainPlace, stops_ok, stops_bind, stops_each, plain_wanted, plain_holds, plain_within}
+use Rattle.tn_read_shapes.proofs.ShapeStops.{text_stops, list_stops, two_stops, number_stops}
 
 module _ (place : List PlaceStep) (plain : IsPlainPlace place) where
   pub firm_at_stops : (firms : List (List ℕ)) (value : Option Data) → StopsPlainly (firm_at firms place value)

@@ -2,13 +2,13 @@
 use Rattle.std.proofs.Common.{◌≢◌, ℕ, List, [], ◌∷◌, Option, Result, sym, ap, subst, ◌∙◌, arith, true≢false}
 use Rattle.std.specs.Prelude.{All, IfSome, IsSome}
 use Rattle.std.proofs.lemmas.List.Elements.{All-nil, All-cons}
-use Rattle.tn_base.specs.declared.fault.FaultKind.TheVariants.{TooLong}
-use Rattle.tn_plain_data.specs.declared.place.PlaceStep.{PlaceStep}
-use Rattle.tn_plain_data.specs.declared.place.PlaceStep.TheVariants.{Key, Index, Trade}
-use Rattle.tn_plain_data.specs.declared.said.Fault.{Fault}
-use Rattle.tn_plain_data.specs.declared.said.Shown.{Shown}
+use Rattle.tn_said.specs.declared.fault.FaultKind.TheVariants.{TooLong}
+use Rattle.tn_said.specs.declared.place.PlaceStep.{PlaceStep}
+use Rattle.tn_said.specs.declared.place.PlaceStep.TheVariants.{Key, Index, Trade}
+use Rattle.tn_said.specs.declared.said.Fault.{Fault}
+use Rattle.tn_said.specs.declared.said.Shown.{Shown}
 use Rattle.tn_names.specs.Named.{HasShortIndex, IsAscendingTriple, IsNamedStep, IsNamedTriple, IsSayableFault}
-use Rattle.tn_shape.proofs.StopLemmas.{Stops, stops_as, is_plain_kind, IsPlainStep, IsPlainPlace, IsPlain, StopsPlainly}
+use Rattle.tn_read_shapes.proofs.StopLemmas.{Stops, stops_as, is_plain_kind, IsPlainStep, IsPlainPlace, IsPlain, StopsPlainly}
 
 -- a plain place is named, whatever the names, and its numbers are short
 named_step : (trades : List (List ℕ)) (step : PlaceStep) → IsPlainStep step → IsNamedStep trades step

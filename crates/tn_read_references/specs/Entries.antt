@@ -2,11 +2,11 @@
 use Rattle.std.specs.Prelude.{ℕ, ◌++◌, [], ◌∷◌, ℤ, List, slice_set, Result, Ok}
 use Rattle.serde_json.specs.Data.{Data}
 use Rattle.tn_base.specs.Sets.{toggle, size}
-use Rattle.tn_plain_data.specs.declared.place.PlaceStep.{PlaceStep}
-use Rattle.tn_plain_data.specs.declared.place.PlaceStep.TheVariants.{Index}
-use Rattle.tn_plain_data.specs.declared.said.Fault.{Fault}
-use Rattle.tn_shape.specs.Reading.{◌>>=◌}
-use Rattle.tn_shape.specs.Shapes.{two_at, number_at}
+use Rattle.tn_said.specs.declared.place.PlaceStep.{PlaceStep}
+use Rattle.tn_said.specs.declared.place.PlaceStep.TheVariants.{Index}
+use Rattle.tn_said.specs.declared.said.Fault.{Fault}
+use Rattle.tn_read_shapes.specs.Reading.{◌>>=◌}
+use Rattle.tn_read_shapes.specs.Shapes.{two_at, number_at}
 
 -- what is referred to so far, and the numbers by what they belong to
 pub record Numbered : Type 0 where

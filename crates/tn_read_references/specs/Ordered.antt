@@ -1,11 +1,11 @@
 -- The head of a document: its limits, and the trades that are listed, with their names.
 use Rattle.std.specs.Prelude.{◌≡◌, List, length, ◌≤◌}
-use Rattle.tn_plain_data.specs.Limits.{AreLimits}
-use Rattle.tn_plain_data.specs.declared.limits.Limits.{Limits}
-use Rattle.tn_plain_data.specs.declared.ends.Ends.{Ends}
+use Rattle.tn_model.specs.Limits.{AreLimits}
+use Rattle.tn_model.specs.declared.limits.Limits.{Limits}
+use Rattle.tn_model.specs.declared.ends.Ends.{Ends}
 use Rattle.tn_names.specs.Names.{NameLists}
-pub use Rattle.tn_plain_data.specs.InOrder.{side_in, ComesNext, AreInOrder}
-unfoldable pub use Rattle.tn_plain_data.specs.InOrder.{sides_of}
+pub use Rattle.tn_model.specs.InOrder.{side_in, ComesNext, AreInOrder}
+unfoldable pub use Rattle.tn_model.specs.InOrder.{sides_of}
 
 -- the limits of the document's version, the names that are known, and the ends of the trades among them
 pub record Listed : Type 0 where

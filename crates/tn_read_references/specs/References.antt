@@ -4,19 +4,19 @@ use Rattle.serde_json.specs.Data.{Data}
 use Rattle.tn_base.specs.Sets.{has, toggle, size}
 use Rattle.tn_base.specs.declared.side.Side.{Side}
 use Rattle.tn_base.specs.declared.side.Side.TheVariants.{Buy, Sell}
-use Rattle.tn_base.specs.declared.fault.FaultKind.TheVariants.{UnknownFirm, UnknownTrade, NotOwnTrade, SameTrade}
-use Rattle.tn_plain_data.specs.declared.ends.Ends.{Ends}
-use Rattle.tn_plain_data.specs.declared.place.PlaceStep.{PlaceStep}
-use Rattle.tn_plain_data.specs.declared.place.PlaceStep.TheVariants.{Index, Key}
-use Rattle.tn_plain_data.specs.declared.place.Word.TheVariants.{Firms}
-use Rattle.tn_plain_data.specs.declared.said.Fault.{Fault}
+use Rattle.tn_said.specs.declared.fault.FaultKind.TheVariants.{UnknownFirm, UnknownTrade, NotOwnTrade, SameTrade}
+use Rattle.tn_model.specs.declared.ends.Ends.{Ends}
+use Rattle.tn_said.specs.declared.place.PlaceStep.{PlaceStep}
+use Rattle.tn_said.specs.declared.place.PlaceStep.TheVariants.{Index, Key}
+use Rattle.tn_said.specs.declared.place.Word.TheVariants.{Firms}
+use Rattle.tn_said.specs.declared.said.Fault.{Fault}
 use Rattle.tn_names.specs.Names.{number_of}
 use Rattle.tn_read_references.specs.declared.own_lists.PartAt.{PartAt}
 use Rattle.tn_read_references.specs.declared.own_lists.PartAt.TheVariants.{Item, Member, MemberItem}
-use Rattle.tn_shape.specs.Reading.{◌>>=◌, each, wanted, holds}
-use Rattle.tn_shape.specs.Shapes.{text_at, list_at}
+use Rattle.tn_read_shapes.specs.Reading.{◌>>=◌, each, wanted, holds}
+use Rattle.tn_read_shapes.specs.Shapes.{text_at, list_at}
 use Rattle.tn_read_references.specs.Ordered.{Listed}
-pub use Rattle.tn_plain_data.specs.InOrder.{position_in}
+pub use Rattle.tn_model.specs.InOrder.{position_in}
 
 abbrev pub firm_place : ℕ → List PlaceStep
 firm_place f = Key Firms ∷ Index f ∷ []

@@ -4,8 +4,8 @@ ghost use Rattle.std.specs.Prelude.{◌≡◌};
 ghost use Rattle.tn_read_references.specs.Ordered.{AreTrades, Listed};
 
 use std::marker::Model;
+use tn_model::{Ends, Limits};
 use tn_names::Names;
-use tn_plain_data::{Ends, Limits};
 
 /// The head of a document: the limits of its version, the names of its firms and trades, and the two ends of each
 /// trade. Names and ends are of the same trades. There are no more firms and trades than the limits allow, each trade

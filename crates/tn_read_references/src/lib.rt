@@ -9,4 +9,4 @@ mod references;
 pub use head::Head;
 pub use own_lists::{OwnPart, PartAt, own_bundle};
 pub use references::{firm, new_trade, own_position, trade};
-pub use tn_plain_data::{count_own, sides_of};
+pub use tn_model::{count_own, sides_of};

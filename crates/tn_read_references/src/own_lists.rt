@@ -3,10 +3,10 @@
 ghost use Rattle.std.specs.Prelude.{◌^◌, ◌<◌, ◌≤◌, ◌++◌, [], ◌∷◌, length, option_map, IfOk, None};
 ghost use Rattle.serde_json.specs.View.{view, items_view};
 ghost use Rattle.tn_base.specs.Sets.{size};
-ghost use Rattle.tn_plain_data.specs.Limits.{most_own_trades};
-ghost use Rattle.tn_plain_data.specs.declared.place.PlaceStep.TheVariants.{Index};
-ghost use Rattle.tn_shape.specs.Reading.{Gives, each};
-ghost use Rattle.tn_shape.specs.Shapes.{list_at};
+ghost use Rattle.tn_model.specs.Limits.{most_own_trades};
+ghost use Rattle.tn_said.specs.declared.place.PlaceStep.TheVariants.{Index};
+ghost use Rattle.tn_read_shapes.specs.Reading.{Gives, each};
+ghost use Rattle.tn_read_shapes.specs.Shapes.{list_at};
 ghost use Rattle.tn_read_references.specs.Ordered.{sides_of};
 ghost use Rattle.tn_read_references.specs.References.{bundle_at, new_own, own_reference, part_place};
 
@@ -14,10 +14,10 @@ use crate::head::Head;
 use crate::references::own_position;
 use serde_json::Value;
 use std::alloc::Global;
-use tn_base::{Bundle, FaultKind};
-use tn_plain_data::PlaceStep::{Index, Key};
-use tn_plain_data::{PlaceStep, Word};
-use tn_shape::{ReadError, list, require};
+use tn_base::Bundle;
+use tn_read_shapes::{ReadError, list, require};
+use tn_said::PlaceStep::{Index, Key};
+use tn_said::{FaultKind, PlaceStep, Word};
 
 /// A list of references to own trades of a firm.
 #[derive(Clone, Copy)]

@@ -2,18 +2,19 @@
 
 ghost use Rattle.std.specs.Prelude.{◌≡◌, ◌<◌, length, option_map, IfOk, Some};
 ghost use Rattle.serde_json.specs.View.{view};
-ghost use Rattle.tn_plain_data.specs.Limits.{most_trades};
-ghost use Rattle.tn_shape.specs.Reading.{Gives};
+ghost use Rattle.tn_model.specs.Limits.{most_trades};
+ghost use Rattle.tn_read_shapes.specs.Reading.{Gives};
 ghost use Rattle.tn_read_references.specs.Ordered.{sides_of};
 ghost use Rattle.tn_read_references.specs.References.{firm_at, new_trade, own_position, position_in, position_on, trade_at};
 
 use crate::head::Head;
 use serde_json::Value;
 use std::alloc::Global;
-use tn_base::{FaultKind, Side, TradeSet};
+use tn_base::{Side, TradeSet};
+use tn_model::Ends;
 use tn_names::Names;
-use tn_plain_data::{Ends, PlaceStep};
-use tn_shape::{ReadError, found, require, text};
+use tn_read_shapes::{ReadError, found, require, text};
+use tn_said::{FaultKind, PlaceStep};
 
 /// The firm that a value names; the faults are, in this order, no text and no firm of the name.
 #[tactic(auto, unfolding(crate::specs::References::firm_at), using(std::proofs::lemmas::Option::slice_get_within))]

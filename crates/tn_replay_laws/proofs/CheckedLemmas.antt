@@ -8,13 +8,14 @@ use Rattle.tn_base.specs.Exchange.{Fails, MeetsExchange}
 use Rattle.tn_base.specs.Firm.{Firm}
 use Rattle.tn_cert.specs.Claims.{IsValid}
 use Rattle.tn_cert.specs.Reasons.{IsFirstToFail}
-use Rattle.tn_plain_data.specs.declared.claim.Claim.{Claim as ClaimIs}
-use Rattle.tn_plain_data.specs.declared.claim.Claim.TheVariants.{Equilibrium as EquilibriumClaim, Better as BetterClaim, Impossible as ImpossibleClaim, Accepted as AcceptedClaim, ExchangeFails as FailureClaim}
-use Rattle.tn_plain_data.specs.declared.said.Said.{Said}
-use Rattle.tn_plain_data.specs.declared.said.Said.TheVariants.{Accepted, Better, Equilibrium, ExchangeFails, Impossible}
-use Rattle.tn_plain_data.specs.Prices.{price_at}
-use Rattle.tn_market.specs.Judged.{IsFirstBettered, IsFirstImpossible, Judges}
-use Rattle.tn_plain_data.specs.Network.{own, trades_of}
+use Rattle.tn_said.specs.declared.claim.Claim.{Claim as ClaimIs}
+use Rattle.tn_said.specs.declared.claim.Claim.TheVariants.{Equilibrium as EquilibriumClaim, Better as BetterClaim, Impossible as ImpossibleClaim, Accepted as AcceptedClaim, ExchangeFails as FailureClaim}
+use Rattle.tn_said.specs.declared.said.Said.{Said}
+use Rattle.tn_said.specs.declared.said.Said.TheVariants.{Accepted, Better, Equilibrium, ExchangeFails, Impossible}
+use Rattle.tn_model.specs.Prices.{price_at}
+use Rattle.tn_market.specs.Judged.{IsFirstBettered, IsFirstImpossible}
+use Rattle.tn_commands.specs.Check.{ChecksArrangement}
+use Rattle.tn_model.specs.Network.{own, trades_of}
 use Rattle.tn_answer.specs.AnswerText.{answer_data}
 use Rattle.tn_replay_laws.specs.Fits.{FitsClaim}
 use Rattle.tn_local.proofs.FirstLemmas.{triple_fails}
@@ -95,7 +96,7 @@ module _ (top : Data) (doc : DocumentData) (at : Arranged) (from : IsReadFrom Ar
       ∙ arranged (listed_in from.parts.limits doc) top at (from.parts.extra ∙ ap Ok extra)
 
   equilibrium_replays : (surplus : ℤ)
-      → Judges doc.firms doc.ends (pos 1) at.on (price_at at.prices) (Equilibrium surplus)
+      → ChecksArrangement doc.firms doc.ends (pos 1) at.on (price_at at.prices) (Equilibrium surplus)
       → FitsClaim (Equilibrium surplus) → IsReplayed top doc (Equilibrium surplus)
   equilibrium_replays surplus judges within =
       let said = Equilibrium surplus in
@@ -149,7 +150,7 @@ module _ (top : Data) (doc : DocumentData) (at : Arranged) (from : IsReadFrom Ar
 -- the answer of `check`
 judged : (top : Data) (doc : DocumentData) (at : Arranged) (said : Said) → IsReadFrom Arrangement top doc
     → doc.extra ≡ arrangement at
-    → Judges doc.firms doc.ends (pos 1) at.on (price_at at.prices) said → FitsClaim said → IsReplayed top doc said
+    → ChecksArrangement doc.firms doc.ends (pos 1) at.on (price_at at.prices) said → FitsClaim said → IsReplayed top doc said
 judged top doc at (Equilibrium surplus) from extra judges within =
     equilibrium_replays top doc at from extra surplus judges within
 judged top doc at (Better f bundle gain) from extra judges within =

@@ -10,18 +10,18 @@ use Rattle.serde_json.specs.View.{items_of}
 use Rattle.tn_base.specs.Arcs.{IsAtMost}
 use Rattle.tn_base.specs.Firm.{Firm}
 use Rattle.tn_base.specs.Sets.{has, set_of}
-use Rattle.tn_plain_data.specs.Limits.{AreLimits, least_nodes, most_number}
-use Rattle.tn_plain_data.specs.declared.claim.Claim.TheVariants.{Equilibrium, Better, Impossible, Accepted, ExchangeFails, Supported, Cycle, Solved, Drops, Completes, Blocks}
-use Rattle.tn_plain_data.specs.declared.contract.Contract.{Contract}
-use Rattle.tn_plain_data.specs.declared.contract.Outcome.{Outcome}
-use Rattle.tn_plain_data.specs.declared.place.Word.{Word}
-use Rattle.tn_plain_data.specs.declared.place.Word.TheVariants.{At, Bundle, Contracts, Cost, Firm as FirmWord, Gain, Keeps, On, Over, Prices, Surplus, X, Y}
-use Rattle.tn_plain_data.specs.declared.said.Said.TheVariants as Said
-use Rattle.tn_plain_data.specs.Network.{own, trades_of, trades_on}
+use Rattle.tn_model.specs.Limits.{AreLimits, least_nodes, most_number}
+use Rattle.tn_said.specs.declared.claim.Claim.TheVariants.{Equilibrium, Better, Impossible, Accepted, ExchangeFails, Supported, Cycle, Solved, Drops, Completes, Blocks}
+use Rattle.tn_model.specs.declared.contract.Contract.{Contract}
+use Rattle.tn_model.specs.declared.contract.Outcome.{Outcome}
+use Rattle.tn_said.specs.declared.place.Word.{Word}
+use Rattle.tn_said.specs.declared.place.Word.TheVariants.{At, Bundle, Contracts, Cost, Firm as FirmWord, Gain, Keeps, On, Over, Prices, Surplus, X, Y}
+use Rattle.tn_said.specs.declared.said.Said.TheVariants as Said
+use Rattle.tn_model.specs.Network.{own, trades_of, trades_on}
 use Rattle.tn_names.specs.Names.{IsNameList}
-use Rattle.tn_shape.specs.Claims.{allows_in_claim}
-use Rattle.tn_shape.specs.Members.{allows}
-use Rattle.tn_shape.specs.Shapes.{few_at, object_of}
+use Rattle.tn_read_shapes.specs.Claims.{allows_in_claim}
+use Rattle.tn_read_shapes.specs.Members.{allows}
+use Rattle.tn_read_shapes.specs.Shapes.{few_at, object_of}
 use Rattle.tn_read_references.specs.Ordered.{Listed}
 use Rattle.tn_read_parts.specs.Arranged.{Arranged, arrangement_of, trades_on_of}
 use Rattle.tn_read_parts.specs.Signed.{outcome_of, over_at}

@@ -3,13 +3,13 @@ use Rattle.std.proofs.Common.{◌≡◌, List, [], Result, Ok, sym, ap, ◌∙�
 use Rattle.std.specs.Prelude.{not}
 use Rattle.serde_json.specs.Data.{Data, Items}
 use Rattle.tn_base.specs.Firm.{Firm}
-use Rattle.tn_plain_data.specs.declared.claim.Claim.{Claim as ClaimIs}
-use Rattle.tn_plain_data.specs.declared.limits.Limits.{Limits}
+use Rattle.tn_said.specs.declared.claim.Claim.{Claim as ClaimIs}
+use Rattle.tn_model.specs.declared.limits.Limits.{Limits}
 use Rattle.tn_read_head.specs.Beside.{with_names}
 use Rattle.tn_read_head.specs.Listing.{listed_of}
 use Rattle.tn_read_head.proofs.BesideLemmas.{leads_beside}
-use Rattle.tn_shape.specs.Reading.{each}
-use Rattle.tn_shape.proofs.LeadLemmas.{Leads, leads_bind, leads_ok}
+use Rattle.tn_read_shapes.specs.Reading.{each}
+use Rattle.tn_read_shapes.proofs.LeadLemmas.{Leads, leads_bind, leads_ok}
 use Rattle.tn_read_references.specs.Ordered.{Listed}
 use Rattle.tn_read_firms.specs.Firms.{one_firm}
 use Rattle.tn_read_claims.specs.Claimed.{claim_of, claims_raw}

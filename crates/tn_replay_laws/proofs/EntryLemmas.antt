@@ -7,12 +7,12 @@ use Rattle.serde_json.specs.View.{items_of}
 use Rattle.tn_base.specs.Arcs.{IsAtMost}
 use Rattle.tn_base.specs.Sets.{has, set_of, size, toggle}
 use Rattle.tn_base.proofs.SetLemmas.{has-set_of, has-toggle_other, has-zero}
-use Rattle.tn_plain_data.specs.declared.contract.Contract.{Contract}
-use Rattle.tn_plain_data.specs.declared.place.PlaceStep.{PlaceStep}
-use Rattle.tn_plain_data.specs.declared.place.PlaceStep.TheVariants.{Index}
+use Rattle.tn_model.specs.declared.contract.Contract.{Contract}
+use Rattle.tn_said.specs.declared.place.PlaceStep.{PlaceStep}
+use Rattle.tn_said.specs.declared.place.PlaceStep.TheVariants.{Index}
 use Rattle.tn_names.specs.Names.{IsNameList}
-use Rattle.tn_shape.specs.Reading.{◌>>=◌, each}
-use Rattle.tn_shape.specs.Shapes.{two_at}
+use Rattle.tn_read_shapes.specs.Reading.{◌>>=◌, each}
+use Rattle.tn_read_shapes.specs.Shapes.{two_at}
 use Rattle.tn_read_references.specs.Entries.{Numbered, entry_of, one_entry}
 use Rattle.tn_read_parts.specs.Lists.{first_without, named_prices, one_price, price_of, prices_of}
 use Rattle.tn_read_claims.specs.Members.{Offered, no_offers, one_offer}

@@ -3,10 +3,10 @@ use Rattle.std.proofs.Common.{◌≡◌, ℕ, Ok, refl, ap, ◌∙◌}
 use Rattle.std.specs.Prelude.{codes}
 use Rattle.serde_json.specs.Data.{Data}
 use Rattle.serde_json.specs.Find.{get}
-use Rattle.tn_plain_data.specs.declared.contract.Outcome.{Outcome as OutcomeIs}
-use Rattle.tn_shape.specs.Reading.{◌>>=◌}
-use Rattle.tn_shape.specs.Shapes.{list_at}
-use Rattle.tn_shape.proofs.LeadLemmas.{Leads, leads_after, leads_bind, leads_ok}
+use Rattle.tn_model.specs.declared.contract.Outcome.{Outcome as OutcomeIs}
+use Rattle.tn_read_shapes.specs.Reading.{◌>>=◌}
+use Rattle.tn_read_shapes.specs.Shapes.{list_at}
+use Rattle.tn_read_shapes.proofs.LeadLemmas.{Leads, leads_after, leads_bind, leads_ok}
 use Rattle.tn_read_references.specs.Ordered.{Listed}
 use Rattle.tn_read_parts.specs.Arranged.{Arranged, arrangement_of, on_of, prices_place, trades_on_of}
 use Rattle.tn_read_parts.specs.Lists.{prices_of}

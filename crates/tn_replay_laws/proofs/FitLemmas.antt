@@ -2,8 +2,8 @@
 use Rattle.std.proofs.Common.{ℤ, List, arith}
 use Rattle.std.specs.Prelude.{All}
 use Rattle.tn_base.specs.Arcs.{IsAtMost}
-use Rattle.tn_plain_data.specs.Limits.{most_number, most_price}
-use Rattle.tn_plain_data.specs.declared.said.Said.TheVariants.{Better, Blocks, Completes, Cycle, Drops, Equilibrium, Solved, Supported}
+use Rattle.tn_model.specs.Limits.{most_number, most_price}
+use Rattle.tn_said.specs.declared.said.Said.TheVariants.{Better, Blocks, Completes, Cycle, Drops, Equilibrium, Solved, Supported}
 use Rattle.tn_answer.specs.Kept.{IsWithinPrices}
 use Rattle.tn_read_references.proofs.EntryLeads.{all_within}
 use Rattle.tn_replay_laws.specs.Fits.{AnswersFitClaims}

@@ -7,29 +7,29 @@ use Rattle.std.proofs.lemmas.List.Elements.{All-head}
 use Rattle.std.proofs.lemmas.Option.{none-some, slice_get_within}
 use Rattle.serde_json.specs.Data.{Data}
 use Rattle.tn_base.specs.Arcs.{IsAtMost}
-use Rattle.tn_plain_data.specs.Limits.{most_number}
+use Rattle.tn_model.specs.Limits.{most_number}
 use Rattle.tn_base.specs.Firm.{Firm, IsBest}
 use Rattle.tn_base.specs.Sets.{has, set_of, toggle}
 use Rattle.tn_base.specs.Walks.{walk_cost}
 use Rattle.tn_base.proofs.SetLemmas.{has-set_of}
 use Rattle.tn_cert.specs.Claims.{GoesRound, node_of}
 use Rattle.tn_cycle.proofs.WalkLemmas.{AreApart, apart_from_different, few_apart, walk_inside}
-use Rattle.tn_plain_data.specs.declared.claim.Claim.TheVariants.{Cycle as CycleClaim, Impossible as ImpossibleClaim, Solved as SolvedClaim, Supported as SupportedClaim}
-use Rattle.tn_plain_data.specs.declared.ends.Ends.{Ends}
-use Rattle.tn_plain_data.specs.declared.said.Said.{Said}
-use Rattle.tn_plain_data.specs.declared.said.Said.TheVariants.{Cycle, Impossible, Solved, Supported}
-use Rattle.tn_plain_data.specs.Prices.{price_at}
+use Rattle.tn_said.specs.declared.claim.Claim.TheVariants.{Cycle as CycleClaim, Impossible as ImpossibleClaim, Solved as SolvedClaim, Supported as SupportedClaim}
+use Rattle.tn_model.specs.declared.ends.Ends.{Ends}
+use Rattle.tn_said.specs.declared.said.Said.{Said}
+use Rattle.tn_said.specs.declared.said.Said.TheVariants.{Cycle, Impossible, Solved, Supported}
+use Rattle.tn_model.specs.Prices.{price_at}
 use Rattle.tn_market.specs.Equilibrium.{IsEquilibrium, surplus_from, surplus_of, utility_at}
 use Rattle.tn_market.specs.Graph.{arc_between, exchange_arc, loss_at, lowered, raised}
-use Rattle.tn_plain_data.specs.Network.{IsNetwork, own, part, trades_on}
+use Rattle.tn_model.specs.Network.{IsNetwork, own, part, trades_on}
 use Rattle.tn_market.specs.Supported.{IsFirstUnable, IsNegativeCycle, said_node}
-use Rattle.tn_network.proofs.RoundLemmas.{cycle_avoids}
+use Rattle.tn_network_laws.proofs.RoundLemmas.{cycle_avoids}
 use Rattle.tn_price.proofs.CycleLemmas.{arcs_between, nodes_inside}
 use Rattle.tn_answer.specs.AnswerText.{answer_data}
 use Rattle.tn_replay_laws.specs.Fits.{FitsClaim}
 use Rattle.tn_read_parts.specs.Arranged.{trades_on_of}
-use Rattle.tn_command.specs.Solved.{Solves}
-use Rattle.tn_command.specs.Supported.{SupportsSet}
+use Rattle.tn_commands.specs.Solve.{Solves}
+use Rattle.tn_commands.specs.Support.{SupportsSet}
 use Rattle.tn_file.specs.declared.need.Need.TheVariants.{Market, On}
 use Rattle.tn_file.specs.Document.{DocumentData, on_alone}
 use Rattle.tn_replay_laws.specs.Laws.{SolutionsReplay, SupportsReplay}

@@ -8,12 +8,12 @@ use Rattle.std.proofs.lemmas.Slice.Eq.{bytes_eq-Decides}
 use Rattle.serde_json.specs.Data.{Data, null, boolean, number, string, array, object, put, Items, Members, no_members, member}
 use Rattle.serde_json.specs.Find.{get, as_str}
 use Rattle.serde_json.proofs.Views.{get_member-put, get_member-put_other}
-use Rattle.tn_shape.specs.declared.members.ObjectKind.{ObjectKind}
-use Rattle.tn_shape.specs.declared.members.ObjectKind.TheVariants.{Top}
-use Rattle.tn_shape.specs.Members.{allows, allows_all}
-use Rattle.tn_shape.specs.Reading.{holds}
-use Rattle.tn_shape.specs.Shapes.{object_of}
-use Rattle.tn_base.specs.declared.fault.FaultKind.TheVariants.{Shape}
+use Rattle.tn_read_shapes.specs.declared.members.ObjectKind.{ObjectKind}
+use Rattle.tn_read_shapes.specs.declared.members.ObjectKind.TheVariants.{Top}
+use Rattle.tn_read_shapes.specs.Members.{allows, allows_all}
+use Rattle.tn_read_shapes.specs.Reading.{holds}
+use Rattle.tn_read_shapes.specs.Shapes.{object_of}
+use Rattle.tn_said.specs.declared.fault.FaultKind.TheVariants.{Shape}
 use Rattle.tn_read_references.specs.Ordered.{Listed}
 use Rattle.tn_read_head.specs.Listing.{limits_at, listed_of}
 use Rattle.tn_read_parts.specs.Arranged.{arrangement_of, on_of, trades_on_of}

@@ -10,17 +10,17 @@ use Rattle.serde_json.specs.View.{items_of}
 use Rattle.tn_base.specs.Sets.{has, set_of, size, toggle}
 use Rattle.tn_base.proofs.SetLemmas.{has-set_of, same_below, set_of_within}
 use Rattle.tn_base.specs.Firm.{Firm}
-use Rattle.tn_plain_data.specs.Limits.{AreLimits}
-use Rattle.tn_plain_data.specs.declared.ends.Ends.{Ends}
-use Rattle.tn_plain_data.specs.declared.place.PlaceStep.{PlaceStep}
-use Rattle.tn_plain_data.specs.declared.place.PlaceStep.TheVariants.{Index}
-use Rattle.tn_plain_data.specs.declared.place.Word.TheVariants.{Nodes}
-use Rattle.tn_plain_data.specs.declared.said.Fault.{Fault}
-use Rattle.tn_plain_data.specs.InOrder.{position_in}
-use Rattle.tn_plain_data.specs.Network.{IsNetwork, own, stands_at, trades_of, trades_on}
-use Rattle.tn_plain_data.proofs.NetworkLemmas.{own_stands}
+use Rattle.tn_model.specs.Limits.{AreLimits}
+use Rattle.tn_model.specs.declared.ends.Ends.{Ends}
+use Rattle.tn_said.specs.declared.place.PlaceStep.{PlaceStep}
+use Rattle.tn_said.specs.declared.place.PlaceStep.TheVariants.{Index}
+use Rattle.tn_said.specs.declared.place.Word.TheVariants.{Nodes}
+use Rattle.tn_said.specs.declared.said.Fault.{Fault}
+use Rattle.tn_model.specs.InOrder.{position_in}
+use Rattle.tn_model.specs.Network.{IsNetwork, own, stands_at, trades_of, trades_on}
+use Rattle.tn_model.proofs.NetworkLemmas.{own_stands}
 use Rattle.tn_names.specs.Names.{IsNameList}
-use Rattle.tn_shape.specs.Reading.{◌>>=◌, each}
+use Rattle.tn_read_shapes.specs.Reading.{◌>>=◌, each}
 use Rattle.tn_read_references.specs.Ordered.{Listed}
 use Rattle.tn_read_references.specs.References.{bundle_at, new_own, own_position, own_reference, new_trade, position_on}
 use Rattle.tn_read_parts.specs.Lists.{one_on}

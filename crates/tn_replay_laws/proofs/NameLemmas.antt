@@ -10,10 +10,10 @@ use Rattle.std.specs.Str.{bytes_eq}
 use Rattle.std.proofs.lemmas.Slice.Eq.{bytes_eq-Decides}
 use Rattle.serde_json.specs.Find.{as_i64, of_integer}
 use Rattle.tn_base.specs.Arcs.{IsAtMost}
-use Rattle.tn_plain_data.specs.declared.place.PlaceStep.{PlaceStep}
+use Rattle.tn_said.specs.declared.place.PlaceStep.{PlaceStep}
 use Rattle.tn_names.specs.Names.{IsNameList, number_of}
 use Rattle.tn_names.proofs.NameLemmas.{name_at_number}
-use Rattle.tn_shape.specs.Shapes.{number_in}
+use Rattle.tn_read_shapes.specs.Shapes.{number_in}
 use Rattle.tn_read_references.specs.References.{firm_at, trade_at}
 use Rattle.tn_read_parts.specs.Signed.{over_at}
 use Rattle.tn_answer.specs.Values.{integer_data, name_data}

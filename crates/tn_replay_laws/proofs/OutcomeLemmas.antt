@@ -4,7 +4,7 @@ use Rattle.std.specs.Prelude.{codes, All, IfSome, ◌≤ℤ◌, ◌*ℤ◌, int_
 use Rattle.std.proofs.lemmas.Int.{ints}
 use Rattle.serde_json.specs.Data.{Data}
 use Rattle.tn_base.specs.Arcs.{IsAtMost}
-use Rattle.tn_plain_data.specs.Limits.{AreLimits, most_number}
+use Rattle.tn_model.specs.Limits.{AreLimits, most_number}
 use Rattle.tn_base.specs.Firm.{Firm}
 use Rattle.tn_base.specs.Sets.{has}
 use Rattle.tn_base.proofs.SetLemmas.{has_below, set_of_within}
@@ -13,25 +13,25 @@ use Rattle.tn_chain.specs.Search.{chain_scale}
 use Rattle.tn_chain.proofs.SizeLemmas.{scale_within}
 use Rattle.tn_judge.specs.Judges.{IsBlockedBy}
 use Rattle.tn_judge.specs.Verdict.{IsCompletedBy, IsFirstDrop}
-use Rattle.tn_law.proofs.KeepLemmas.{times-le}
-use Rattle.tn_plain_data.specs.declared.claim.Claim.TheVariants.{Blocks as BlocksClaim, Completes as CompletesClaim, Drops as DropsClaim}
-use Rattle.tn_plain_data.specs.declared.contract.Contract.{Contract}
-use Rattle.tn_plain_data.specs.declared.contract.Outcome.{Outcome as OutcomeIs}
-use Rattle.tn_plain_data.specs.declared.said.Said.{Said}
-use Rattle.tn_plain_data.specs.declared.said.Said.TheVariants.{Blocks, Completes, Drops}
-use Rattle.tn_plain_data.specs.Choices.{Blocks as DoBlock, IsFeasible, is_traded, own_part, part_utility}
+use Rattle.tn_firm_laws.proofs.KeepLemmas.{times-le}
+use Rattle.tn_said.specs.declared.claim.Claim.TheVariants.{Blocks as BlocksClaim, Completes as CompletesClaim, Drops as DropsClaim}
+use Rattle.tn_model.specs.declared.contract.Contract.{Contract}
+use Rattle.tn_model.specs.declared.contract.Outcome.{Outcome as OutcomeIs}
+use Rattle.tn_said.specs.declared.said.Said.{Said}
+use Rattle.tn_said.specs.declared.said.Said.TheVariants.{Blocks, Completes, Drops}
+use Rattle.tn_model.specs.Choices.{Blocks as DoBlock, IsFeasible, is_traded, own_part, part_utility}
 use Rattle.tn_market.specs.Equilibrium.{utility_at}
-use Rattle.tn_plain_data.specs.Network.{own, trades_of}
-use Rattle.tn_plain_data.specs.OutcomeLimits.{IsOutcomeWithin}
+use Rattle.tn_model.specs.Network.{own, trades_of}
+use Rattle.tn_model.specs.OutcomeLimits.{IsOutcomeWithin}
 use Rattle.tn_market.specs.Signed.{signed_bundle, signed_price}
 use Rattle.tn_market.proofs.AskLemmas.{impossible_worth, possible_worth}
-use Rattle.tn_outcome.proofs.RationalLemmas.{IsSigner, bundle_signed, own_bundle, own_is_part, part_is_bundle}
-use Rattle.tn_outcome.proofs.SignedLemmas.{has-signed_bundle}
+use Rattle.tn_outcome_laws.proofs.RationalLemmas.{IsSigner, bundle_signed, own_bundle, own_is_part, part_is_bundle}
+use Rattle.tn_outcome_laws.proofs.SignedLemmas.{has-signed_bundle}
 use Rattle.tn_residual.proofs.MakingLemmas.{outcome_feasible}
 use Rattle.tn_answer.specs.AnswerText.{answer_data}
 use Rattle.tn_replay_laws.specs.Fits.{FitsClaim}
 use Rattle.tn_read_parts.specs.Signed.{outcome_of}
-use Rattle.tn_command.specs.Outcome.{JudgesOutcome}
+use Rattle.tn_commands.specs.Judge.{JudgesOutcome}
 use Rattle.tn_file.specs.declared.need.Need.TheVariants.{Outcome}
 use Rattle.tn_file.specs.Document.{DocumentData, outcome}
 use Rattle.tn_file.specs.Laws.{IsExtra}

@@ -3,15 +3,15 @@ use Rattle.std.proofs.Common.{◌≡◌, ℕ, true, List, Some, Ok, refl, sym, s
 use Rattle.std.specs.Prelude.{◌↔◌}
 use Rattle.std.proofs.lemmas.Option.{slice_get_within}
 use Rattle.serde_json.specs.Data.{Data}
-use Rattle.tn_plain_data.specs.declared.said.Said.{Said}
-use Rattle.tn_plain_data.specs.declared.said.Said.TheVariants.{Accepted, ExchangeFails, Invalid, Valid}
-use Rattle.tn_plain_data.specs.declared.claim.Claim.{Claim}
-use Rattle.tn_plain_data.specs.declared.ends.Ends.{Ends}
+use Rattle.tn_said.specs.declared.said.Said.{Said}
+use Rattle.tn_said.specs.declared.said.Said.TheVariants.{Accepted, ExchangeFails, Invalid, Valid}
+use Rattle.tn_said.specs.declared.claim.Claim.{Claim}
+use Rattle.tn_model.specs.declared.ends.Ends.{Ends}
 use Rattle.tn_base.specs.Firm.{Firm}
 use Rattle.tn_cert.specs.Claims.{IsValid}
 use Rattle.tn_cert.specs.RefutedLaw.{RefutedIsNotValid}
-use Rattle.tn_command.specs.Claimed.{DecidesClaim}
-use Rattle.tn_command.proofs.CheckLemmas.{claim_implies}
+use Rattle.tn_commands.specs.Replay.{DecidesClaim}
+use Rattle.tn_commands.proofs.CheckLemmas.{claim_implies}
 use Rattle.tn_answer.specs.AnswerText.{answer_data}
 use Rattle.tn_file.specs.declared.need.Need.{Need}
 use Rattle.tn_file.specs.Document.{DocumentData, ExtraData, arrangement, document_of, on_alone, outcome, reading_of}
@@ -26,7 +26,7 @@ use Rattle.tn_run.specs.declared.command.Command.{Command}
 use Rattle.tn_run.specs.declared.command.Command.TheVariants.{Check, Firms, Judge, Range, Replay, Session, Solve, Support, Test}
 use Rattle.tn_run.specs.Answer.{ChecksExtra, IsAnswerOf, IsAnswerTo, JudgesExtra, SupportsExtra}
 use Rattle.tn_replay_laws.specs.Runs.{AnswersReplay, answers_claims}
-use Rattle.tn_run.specs.Tested.{Tests}
+use Rattle.tn_raw_answers.specs.Test.{Tests}
 use Rattle.tn_run.specs.Words.{need_of}
 
 module _ (top : Data) (doc : DocumentData) (said : Said) (within : FitsClaim said) where

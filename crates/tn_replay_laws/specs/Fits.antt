@@ -1,9 +1,9 @@
 -- Which answers have numbers that a claim may have.
 use Rattle.std.specs.Prelude.{All, IfSome}
 use Rattle.tn_answer.specs.Kept.{IsWithinClaims}
-use Rattle.tn_plain_data.specs.ClaimLimits.{IsNumberWithin}
-use Rattle.tn_plain_data.specs.declared.said.Said.{Said}
-use Rattle.tn_plain_data.specs.declared.said.Said.TheVariants.{Better, Blocks, Completes, Cycle, Drops, Equilibrium, Solved, Supported}
+use Rattle.tn_said.specs.ClaimLimits.{IsNumberWithin}
+use Rattle.tn_said.specs.declared.said.Said.{Said}
+use Rattle.tn_said.specs.declared.said.Said.TheVariants.{Better, Blocks, Completes, Cycle, Drops, Equilibrium, Solved, Supported}
 
 -- the numbers of an answer are within the limits of claims; its denominator, and how many nodes it has, need no word
 abbrev pub FitsClaim : Said → Type 0

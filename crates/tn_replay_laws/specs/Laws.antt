@@ -6,24 +6,24 @@ use Rattle.tn_replay_laws.specs.Fits.{FitsClaim}
 use Rattle.tn_base.specs.Exchange.{MeetsExchange}
 use Rattle.tn_base.specs.Firm.{Firm}
 use Rattle.tn_cert.specs.Reasons.{IsFirstToFail}
-use Rattle.tn_command.specs.Outcome.{JudgesOutcome}
-use Rattle.tn_command.specs.Solved.{Solves}
-use Rattle.tn_command.specs.Supported.{SupportsSet}
+use Rattle.tn_commands.specs.Judge.{JudgesOutcome}
+use Rattle.tn_commands.specs.Solve.{Solves}
+use Rattle.tn_commands.specs.Support.{SupportsSet}
 use Rattle.tn_read_parts.specs.Arranged.{Arranged}
 use Rattle.tn_file.specs.declared.need.Need.TheVariants.{Arrangement, Market, On, Outcome, Raw}
 use Rattle.tn_file.specs.Document.{DocumentData, arrangement, document_of, on_alone, outcome}
-use Rattle.tn_plain_data.specs.declared.contract.Outcome.{Outcome as OutcomeIs}
-use Rattle.tn_plain_data.specs.declared.said.Said.{Said}
-use Rattle.tn_plain_data.specs.declared.said.Said.TheVariants.{Accepted, ExchangeFails}
-use Rattle.tn_plain_data.specs.Prices.{price_at}
-use Rattle.tn_market.specs.Judged.{Judges}
+use Rattle.tn_model.specs.declared.contract.Outcome.{Outcome as OutcomeIs}
+use Rattle.tn_said.specs.declared.said.Said.{Said}
+use Rattle.tn_said.specs.declared.said.Said.TheVariants.{Accepted, ExchangeFails}
+use Rattle.tn_model.specs.Prices.{price_at}
+use Rattle.tn_commands.specs.Check.{ChecksArrangement}
 use Rattle.tn_replay_laws.specs.Replayed.{IsReplayed}
 
 -- the verdict on the document's arrangement
 abbrev pub VerdictsReplay : Type 0
 VerdictsReplay = (top : Data) (doc : DocumentData) (at : Arranged) (said : Said) → document_of Arrangement top ≡ Ok doc
     → doc.extra ≡ arrangement at
-    → Judges doc.firms doc.ends (pos 1) at.on (price_at at.prices) said → FitsClaim said → IsReplayed top doc said
+    → ChecksArrangement doc.firms doc.ends (pos 1) at.on (price_at at.prices) said → FitsClaim said → IsReplayed top doc said
 
 -- that every firm meets the exchange property, or the first triple of the first firm that doesn't
 pub record TestsReplay : Type 0 where

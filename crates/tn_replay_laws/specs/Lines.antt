@@ -5,8 +5,8 @@ use Rattle.serde_json.specs.Written.{compact_text}
 use Rattle.tn_answer.specs.AnswerText.{answer_data, answer_line}
 use Rattle.tn_answer.specs.Kept.{IsWithinClaims}
 use Rattle.tn_answer.specs.declared.layout.Layout.TheVariants.{Object}
-use Rattle.tn_plain_data.specs.declared.said.Said.{Said}
-use Rattle.tn_plain_data.specs.declared.said.Said.TheVariants.{Accepted, Better, Blocks, Completes, Cycle, Drops, Equilibrium, ExchangeFails, Impossible, Solved, Supported}
+use Rattle.tn_said.specs.declared.said.Said.{Said}
+use Rattle.tn_said.specs.declared.said.Said.TheVariants.{Accepted, Better, Blocks, Completes, Cycle, Drops, Equilibrium, ExchangeFails, Impossible, Solved, Supported}
 use Rattle.tn_names.specs.Names.{NameLists}
 
 -- whether an answer is one that claims are made of

@@ -5,8 +5,8 @@ use Rattle.tn_answer.specs.AnswerText.{answer_data}
 use Rattle.tn_cert.specs.Claims.{IsValid}
 use Rattle.tn_file.specs.declared.need.Need.TheVariants.{Claim}
 use Rattle.tn_file.specs.Document.{DocumentData, claim, document_of}
-use Rattle.tn_plain_data.specs.declared.claim.Claim.{Claim as ClaimIs}
-use Rattle.tn_plain_data.specs.declared.said.Said.{Said}
+use Rattle.tn_said.specs.declared.claim.Claim.{Claim as ClaimIs}
+use Rattle.tn_said.specs.declared.said.Said.{Said}
 
 -- the document with a value as its claim, in place of any other
 unfoldable pub with_claim : Data → Data → Data

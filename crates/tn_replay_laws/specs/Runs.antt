@@ -4,8 +4,8 @@ use Rattle.serde_json.specs.Data.{Data}
 use Rattle.tn_answer.specs.AnswerText.{answer_data}
 use Rattle.tn_file.specs.Document.{DocumentData, reading_of}
 use Rattle.tn_file.specs.Json.{json_of}
-use Rattle.tn_plain_data.specs.declared.said.Said.{Said}
-use Rattle.tn_plain_data.specs.declared.said.Said.TheVariants.{Valid}
+use Rattle.tn_said.specs.declared.said.Said.{Said}
+use Rattle.tn_said.specs.declared.said.Said.TheVariants.{Valid}
 use Rattle.tn_names.specs.Names.{NameLists}
 use Rattle.tn_replay_laws.specs.Fits.{FitsClaim}
 use Rattle.tn_replay_laws.specs.Replayed.{with_claim}

@@ -5,11 +5,11 @@ use Rattle.tn_base.specs.Sets.{has, size, size_below}
 use Rattle.tn_base.specs.Firm.{Firm}
 use Rattle.tn_base.proofs.SetLemmas.{set_of_within}
 use Rattle.tn_base.proofs.SizeLemmas.{size_at}
-use Rattle.tn_plain_data.specs.declared.ends.Ends.{Ends}
-use Rattle.tn_plain_data.specs.Network.{own, part, IsNetwork}
+use Rattle.tn_model.specs.declared.ends.Ends.{Ends}
+use Rattle.tn_model.specs.Network.{own, part, IsNetwork}
 use Rattle.tn_market.proofs.GraphLemmas.{has-part}
-use Rattle.tn_network.proofs.SumLemmas.{sum_to, sum_to-plus, sum_to-same, all_from, sum_list, sum_list-same}
-use Rattle.tn_network.proofs.WelfareLemmas.{at_side, ends_total}
+use Rattle.tn_network_laws.proofs.SumLemmas.{sum_to, sum_to-plus, sum_to-same, all_from, sum_list, sum_list-same}
+use Rattle.tn_network_laws.proofs.WelfareLemmas.{at_side, ends_total}
 
 -- 1 for a member
 one_in : ℕ → ℕ → ℤ

@@ -13,16 +13,16 @@ use Rattle.tn_base.specs.Sets.{has, toggle, set_of, union, minus}
 use Rattle.tn_base.specs.Firm.{Firm, payments, utility}
 use Rattle.tn_base.proofs.SetLemmas.{same_set, has-set_of, has-union, has-minus}
 use Rattle.tn_base.proofs.SumLemmas.{sum_over-same_terms}
-use Rattle.tn_plain_data.specs.declared.ends.Ends.{Ends}
-use Rattle.tn_plain_data.specs.declared.contract.Contract.{Contract}
-use Rattle.tn_plain_data.specs.Network.{own, part}
+use Rattle.tn_model.specs.declared.ends.Ends.{Ends}
+use Rattle.tn_model.specs.declared.contract.Contract.{Contract}
+use Rattle.tn_model.specs.Network.{own, part}
 use Rattle.tn_market.specs.Equilibrium.{prices_at}
 use Rattle.tn_market.specs.Widths.{most_own}
-use Rattle.tn_plain_data.specs.Limits.{most_numerator}
+use Rattle.tn_model.specs.Limits.{most_numerator}
 use Rattle.tn_market.specs.Best.{IsSubset, IsBetween, GivesBest}
-use Rattle.tn_plain_data.specs.Prices.{price_at}
+use Rattle.tn_model.specs.Prices.{price_at}
 use Rattle.tn_market.specs.Signed.{is_signed, signed, signed_price, signed_bundle, contract_utility}
-use Rattle.tn_outcome.proofs.SignedLemmas.{no_price}
+use Rattle.tn_outcome_laws.proofs.SignedLemmas.{no_price}
 use Rattle.tn_residual.specs.Held.{contract_price, HoldsSigned, GivesPart}
 
 -- ---- the contract on a trade

@@ -13,20 +13,20 @@ use Rattle.tn_base.specs.Arcs.{IsAtMost}
 use Rattle.tn_base.specs.Sets.{has, toggle, set_of}
 use Rattle.tn_base.specs.Firm.{Firm}
 use Rattle.tn_base.proofs.SetLemmas.{has-set_of}
-use Rattle.tn_law.proofs.BoundLemmas.{abs_small}
-use Rattle.tn_law.proofs.KeepLemmas.{times-le}
-use Rattle.tn_plain_data.specs.declared.ends.Ends.{Ends}
-use Rattle.tn_plain_data.specs.declared.contract.Contract.{Contract}
-use Rattle.tn_plain_data.specs.Network.{own, part}
-use Rattle.tn_plain_data.specs.Choices.{IsFeasible}
+use Rattle.tn_firm_laws.proofs.BoundLemmas.{abs_small}
+use Rattle.tn_firm_laws.proofs.KeepLemmas.{times-le}
+use Rattle.tn_model.specs.declared.ends.Ends.{Ends}
+use Rattle.tn_model.specs.declared.contract.Contract.{Contract}
+use Rattle.tn_model.specs.Network.{own, part}
+use Rattle.tn_model.specs.Choices.{IsFeasible}
 use Rattle.tn_market.specs.Levied.{levied_limit}
 use Rattle.tn_market.specs.Widths.{most_limit, most_worth}
-use Rattle.tn_plain_data.specs.Limits.{few_trades, most_claimed_over, most_numerator, most_own_trades, most_sets, most_worth_among}
+use Rattle.tn_model.specs.Limits.{few_trades, most_claimed_over, most_numerator, most_own_trades, most_sets, most_worth_among}
 use Rattle.tn_market.specs.Limits.{IsOutcomeOf}
 use Rattle.tn_market.specs.Outside.{outside}
 use Rattle.tn_market.specs.Signed.{is_signed, signed_price}
-use Rattle.tn_plain_data.proofs.ContractLemmas.{contracts_ascend}
-use Rattle.tn_outcome.proofs.SignedLemmas.{signed_by}
+use Rattle.tn_model.proofs.ContractLemmas.{contracts_ascend}
+use Rattle.tn_outcome_laws.proofs.SignedLemmas.{signed_by}
 use Rattle.tn_residual.specs.Held.{contract_price}
 use Rattle.tn_residual.specs.Residual.{unsigned_from, sold_to, bought_from, halves_of, halves_from, unsigned, levied_from, outsides, residual_limit, residual_trades}
 use Rattle.tn_residual.proofs.TradeLemmas.{levied_firm}

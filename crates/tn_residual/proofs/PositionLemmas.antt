@@ -7,22 +7,22 @@ use Rattle.tn_base.specs.Sets.{has, meet, minus, size, sum_over}
 use Rattle.tn_base.specs.Firm.{Firm, HasOwnBundles, payments}
 use Rattle.tn_base.proofs.SetLemmas.{same_below, has-set_of, has-meet, has-minus, set_of_within, minus_within, meet_within}
 use Rattle.tn_base.proofs.SumLemmas.{sum_over-same_terms, sum_over-times, times-plus}
-use Rattle.tn_plain_data.specs.declared.ends.Ends.{Ends}
-use Rattle.tn_plain_data.specs.declared.contract.Contract.{Contract}
-use Rattle.tn_plain_data.specs.Network.{own, part, stands_at, IsNetwork}
-use Rattle.tn_plain_data.specs.Choices.{IsFeasible}
+use Rattle.tn_model.specs.declared.ends.Ends.{Ends}
+use Rattle.tn_model.specs.declared.contract.Contract.{Contract}
+use Rattle.tn_model.specs.Network.{own, part, stands_at, IsNetwork}
+use Rattle.tn_model.specs.Choices.{IsFeasible}
 use Rattle.tn_market.specs.Equilibrium.{prices_at}
 use Rattle.tn_market.specs.Levied.{levy}
 use Rattle.tn_market.specs.Outside.{outside, outside_sum}
 use Rattle.tn_market.specs.OutsideLemmas.{outside-worth}
 use Rattle.tn_market.specs.Signed.{is_signed, signed_price, signed_bundle}
-use Rattle.tn_plain_data.proofs.NetworkLemmas.{own_stands}
-use Rattle.tn_plain_data.proofs.NetworkLemmas.{one_trade}
+use Rattle.tn_model.proofs.NetworkLemmas.{own_stands}
+use Rattle.tn_model.proofs.NetworkLemmas.{one_trade}
 use Rattle.tn_market.proofs.GraphLemmas.{has-part}
 use Rattle.tn_market.proofs.LevyLemmas.{levy_is}
-use Rattle.tn_network.proofs.WelfareLemmas.{paid}
-use Rattle.tn_network.proofs.StabilityLemmas.{times-neg, times-times}
-use Rattle.tn_outcome.proofs.SignedLemmas.{price_of_contract, no_price, signed_by, has-signed_bundle}
+use Rattle.tn_network_laws.proofs.WelfareLemmas.{paid}
+use Rattle.tn_network_laws.proofs.StabilityLemmas.{times-neg, times-times}
+use Rattle.tn_outcome_laws.proofs.SignedLemmas.{price_of_contract, no_price, signed_by, has-signed_bundle}
 use Rattle.tn_residual.specs.Residual.{sold_to, bought_from, residual_of, residual_trades, number_from, unsigned, unsigned_from, unsigned_part}
 use Rattle.tn_residual.proofs.TradeLemmas.{have_trades, free_count, free_at, half_trades, levied_firm, market_firm, outside_firm}
 use Rattle.tn_residual.proofs.ResidualLemmas.{first_bought, second_sold, StandsFor, stands_for, stands_sold, stands_bought, residual_network}

@@ -9,21 +9,21 @@ use Rattle.tn_base.specs.Firm.{Firm}
 use Rattle.tn_base.proofs.SetLemmas.{same_set, same_below, has-set_of, has-minus, has_below, set_of_within, within_from}
 use Rattle.tn_base.proofs.ExchangeLemmas.{cases_worth}
 use Rattle.tn_base.proofs.SumLemmas.{times-plus}
-use Rattle.tn_law.proofs.KeepLemmas.{option_map-some}
-use Rattle.tn_plain_data.specs.declared.ends.Ends.{Ends}
-use Rattle.tn_plain_data.specs.declared.contract.Contract.{Contract}
-use Rattle.tn_plain_data.specs.Network.{own, part, stands_at}
+use Rattle.tn_firm_laws.proofs.KeepLemmas.{option_map-some}
+use Rattle.tn_model.specs.declared.ends.Ends.{Ends}
+use Rattle.tn_model.specs.declared.contract.Contract.{Contract}
+use Rattle.tn_model.specs.Network.{own, part, stands_at}
 use Rattle.tn_market.specs.Best.{IsSubset}
 use Rattle.tn_market.specs.Equilibrium.{surplus_from, surplus_of}
 use Rattle.tn_market.specs.Signed.{is_signed, signed_bundle}
 use Rattle.tn_market.specs.Reduced.{reduced, reduced_from, reduced_firms}
-use Rattle.tn_plain_data.proofs.NetworkLemmas.{own_stands}
-use Rattle.tn_plain_data.proofs.NetworkLemmas.{one_trade}
+use Rattle.tn_model.proofs.NetworkLemmas.{own_stands}
+use Rattle.tn_model.proofs.NetworkLemmas.{one_trade}
 use Rattle.tn_market.proofs.GraphLemmas.{has-part}
-use Rattle.tn_network.proofs.SumLemmas.{sum_list}
-use Rattle.tn_outcome.proofs.AddingLemmas.{adding_one}
-use Rattle.tn_outcome.proofs.SignedLemmas.{has-signed_bundle}
-use Rattle.tn_outcome.proofs.CompletionLemmas.{reduced_is}
+use Rattle.tn_network_laws.proofs.SumLemmas.{sum_list}
+use Rattle.tn_outcome_laws.proofs.AddingLemmas.{adding_one}
+use Rattle.tn_outcome_laws.proofs.SignedLemmas.{has-signed_bundle}
+use Rattle.tn_outcome_laws.proofs.CompletionLemmas.{reduced_is}
 use Rattle.tn_residual.specs.Residual.{sold_to, bought_from, number_from, unsigned, unsigned_part, outsides, residual_of, residual_trades}
 use Rattle.tn_residual.specs.Surplus.{IsGreatestSurplus, IsSurplusOfReduced, SurplusIsReducedWorth}
 use Rattle.tn_residual.proofs.TradeLemmas.{have_trades, trade_from, free_trade}

@@ -5,14 +5,14 @@ use Rattle.std.proofs.lemmas.List.{length-append, length-map}
 use Rattle.std.proofs.lemmas.Option.{same_Some, slice_get_within}
 use Rattle.tn_base.specs.Sets.{has}
 use Rattle.tn_base.specs.Firm.{Firm}
-use Rattle.tn_plain_data.specs.declared.ends.Ends.{Ends}
-use Rattle.tn_plain_data.specs.declared.contract.Contract.{Contract}
-use Rattle.tn_plain_data.specs.Network.{own, stands_at, IsNetwork}
-use Rattle.tn_plain_data.specs.Choices.{IsFeasible}
+use Rattle.tn_model.specs.declared.ends.Ends.{Ends}
+use Rattle.tn_model.specs.declared.contract.Contract.{Contract}
+use Rattle.tn_model.specs.Network.{own, stands_at, IsNetwork}
+use Rattle.tn_model.specs.Choices.{IsFeasible}
 use Rattle.tn_market.specs.Outside.{outside}
 use Rattle.tn_market.specs.Signed.{is_signed}
-use Rattle.tn_plain_data.proofs.NetworkLemmas.{own_stands}
-use Rattle.tn_outcome.proofs.SignedLemmas.{contract_on, signed_by}
+use Rattle.tn_model.proofs.NetworkLemmas.{own_stands}
+use Rattle.tn_outcome_laws.proofs.SignedLemmas.{contract_on, signed_by}
 use Rattle.tn_residual.specs.Residual.{sold_to, bought_from, residual_trades, levied_from, outsides, residual_of, number_from}
 use Rattle.tn_residual.proofs.TradeLemmas.{HaveTrades, have_trades, free_count, trade_from, free_trade, half_trades, levied_firm, levied_count, market_firm, outside_firm, firm_from}
 

@@ -6,18 +6,18 @@ use Rattle.std.proofs.lemmas.Option.{same_Some, option_and_then_some}
 use Rattle.tn_base.specs.Sets.{size, sum_over}
 use Rattle.tn_base.specs.Firm.{Firm, payments, plus_sum}
 use Rattle.tn_base.proofs.SumLemmas.{times-plus}
-use Rattle.tn_law.proofs.KeepLemmas.{option_map-some, times-le}
-use Rattle.tn_plain_data.specs.declared.ends.Ends.{Ends}
-use Rattle.tn_plain_data.specs.declared.contract.Contract.{Contract}
-use Rattle.tn_plain_data.specs.Network.{part}
+use Rattle.tn_firm_laws.proofs.KeepLemmas.{option_map-some, times-le}
+use Rattle.tn_model.specs.declared.ends.Ends.{Ends}
+use Rattle.tn_model.specs.declared.contract.Contract.{Contract}
+use Rattle.tn_model.specs.Network.{part}
 use Rattle.tn_market.specs.Equilibrium.{prices_at, surplus_from, surplus_of}
 use Rattle.tn_market.specs.Outside.{outside}
 use Rattle.tn_market.specs.Signed.{signed_price, signed_bundle}
 use Rattle.tn_market.specs.Reduced.{reduced, reduced_from}
-use Rattle.tn_network.proofs.SumLemmas.{AllFrom, all_from, sum_list}
-use Rattle.tn_network.proofs.WelfareLemmas.{paid, paid_cancels}
-use Rattle.tn_outcome.proofs.AddingLemmas.{adding_most}
-use Rattle.tn_outcome.proofs.SplitLemmas.{own_priced}
+use Rattle.tn_network_laws.proofs.SumLemmas.{AllFrom, all_from, sum_list}
+use Rattle.tn_network_laws.proofs.WelfareLemmas.{paid, paid_cancels}
+use Rattle.tn_outcome_laws.proofs.AddingLemmas.{adding_most}
+use Rattle.tn_outcome_laws.proofs.SplitLemmas.{own_priced}
 use Rattle.tn_residual.specs.Residual.{levied_from, outsides, unsigned_part}
 use Rattle.tn_residual.proofs.TradeLemmas.{levied_count}
 use Rattle.tn_residual.proofs.PositionLemmas.{Setting, parties, made, party, made_network, part_beside, half_prices, market_value, outside_value}

@@ -2,14 +2,14 @@
 use Rattle.std.proofs.Common.{◌≡◌, ℕ, zero, suc, ◌+◌, ◌*◌, Bool, true, false, if◌then◌else◌, List, [], ◌∷◌, ◌++◌, length, slice_get, Option, Some, None, option_map, refl, sym, ap, ◌∙◌, arith, inl, inr, ◌⊎◌, ℤ, ◌*ℤ◌}
 use Rattle.std.proofs.lemmas.Option.{same_Some, slice_get-map, slice_get_cases}
 use Rattle.tn_base.specs.Firm.{Firm}
-use Rattle.tn_plain_data.specs.declared.ends.Ends.{Ends}
-use Rattle.tn_plain_data.specs.declared.contract.Contract.{Contract}
-use Rattle.tn_plain_data.specs.Network.{part}
-use Rattle.tn_plain_data.specs.Choices.{IsFeasible}
+use Rattle.tn_model.specs.declared.ends.Ends.{Ends}
+use Rattle.tn_model.specs.declared.contract.Contract.{Contract}
+use Rattle.tn_model.specs.Network.{part}
+use Rattle.tn_model.specs.Choices.{IsFeasible}
 use Rattle.tn_market.specs.Levied.{levied}
 use Rattle.tn_market.specs.Outside.{outside}
 use Rattle.tn_market.specs.Signed.{is_signed}
-use Rattle.tn_network.proofs.PoolLemmas.{append_cases, append_front, append_behind}
+use Rattle.tn_network_laws.proofs.PoolLemmas.{append_cases, append_front, append_behind}
 use Rattle.tn_residual.specs.Residual.{unsigned_from, sold_to, bought_from, halves_of, halves_from, residual_trades, unsigned, levied_from, outsides, residual_of, number_from}
 
 -- ---- the unsigned trades

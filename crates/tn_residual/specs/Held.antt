@@ -2,12 +2,12 @@
 use Rattle.std.specs.Prelude.{◌≡◌, ℕ, ◌<◌, ◌≤◌, ℤ, pos, List, length, All, if◌then◌else◌, Option, Some, None, ◌≤ℤ◌}
 use Rattle.tn_base.specs.Arcs.{IsAtMost}
 use Rattle.tn_base.specs.Sets.{union}
-use Rattle.tn_plain_data.specs.declared.ends.Ends.{Ends}
-use Rattle.tn_plain_data.specs.declared.contract.Contract.{Contract}
-use Rattle.tn_plain_data.specs.Network.{own, part}
-use Rattle.tn_plain_data.specs.Limits.{most_numerator}
+use Rattle.tn_model.specs.declared.ends.Ends.{Ends}
+use Rattle.tn_model.specs.declared.contract.Contract.{Contract}
+use Rattle.tn_model.specs.Network.{own, part}
+use Rattle.tn_model.specs.Limits.{most_numerator}
 use Rattle.tn_market.specs.Best.{IsSubset}
-use Rattle.tn_plain_data.specs.Prices.{price_at}
+use Rattle.tn_model.specs.Prices.{price_at}
 use Rattle.tn_market.specs.Signed.{is_signed, signed, signed_price}
 use Rattle.tn_market.specs.Widths.{most_own}
 

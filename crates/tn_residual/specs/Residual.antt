@@ -4,10 +4,10 @@
 use Rattle.std.specs.Prelude.{ℕ, zero, suc, unsigned_abs, ◌+◌, ◌*◌, ℤ, ◌*ℤ◌, List, [], ◌∷◌, ◌++◌, length, map, slice_get, not, ◌&&◌, if◌then◌else◌, Option, Some, None}
 use Rattle.tn_base.specs.Sets.{has, set_of}
 use Rattle.tn_base.specs.Firm.{Firm}
-use Rattle.tn_plain_data.specs.declared.ends.Ends.{Ends}
-use Rattle.tn_plain_data.specs.declared.contract.Contract.{Contract}
-use Rattle.tn_plain_data.specs.Limits.{most_numerator, most_worth_among}
-use Rattle.tn_plain_data.specs.Network.{part}
+use Rattle.tn_model.specs.declared.ends.Ends.{Ends}
+use Rattle.tn_model.specs.declared.contract.Contract.{Contract}
+use Rattle.tn_model.specs.Limits.{most_numerator, most_worth_among}
+use Rattle.tn_model.specs.Network.{part}
 use Rattle.tn_market.specs.Levied.{levied}
 use Rattle.tn_market.specs.Outside.{outside}
 use Rattle.tn_market.specs.Signed.{is_signed}

@@ -2,11 +2,11 @@
 use Rattle.std.specs.Prelude.{◌≡◌, ℕ, ◌*◌, ℤ, pos, ◌-ℤ◌, ◌*ℤ◌, ◌≤ℤ◌, List, length, slice_get, Option, Some, None}
 use Rattle.tn_base.specs.Sets.{size}
 use Rattle.tn_base.specs.Firm.{Firm, HasOwnBundles}
-use Rattle.tn_plain_data.specs.declared.ends.Ends.{Ends}
-use Rattle.tn_plain_data.specs.declared.contract.Contract.{Contract}
-use Rattle.tn_plain_data.specs.Network.{IsNetwork}
+use Rattle.tn_model.specs.declared.ends.Ends.{Ends}
+use Rattle.tn_model.specs.declared.contract.Contract.{Contract}
+use Rattle.tn_model.specs.Network.{IsNetwork}
 use Rattle.tn_market.specs.Best.{IsSubset}
-use Rattle.tn_plain_data.specs.Choices.{IsFeasible}
+use Rattle.tn_model.specs.Choices.{IsFeasible}
 use Rattle.tn_market.specs.Equilibrium.{surplus_of}
 use Rattle.tn_market.specs.Reduced.{reduced_firms}
 use Rattle.tn_residual.specs.Residual.{residual_of, residual_trades, unsigned, unsigned_part}

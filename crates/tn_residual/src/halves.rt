@@ -2,8 +2,8 @@
 
 ghost use Rattle.std.specs.Prelude.{◌≡◌, ◌++◌, ◌<◌, ◌≤◌, All, IfOk, length};
 ghost use Rattle.tn_market.specs.Limits.{IsOutcomeOf, IsWithinLimits};
-ghost use Rattle.tn_plain_data.specs.Limits.{most_firms, most_trades};
-ghost use Rattle.tn_plain_data.specs.Network.{IsNetwork};
+ghost use Rattle.tn_model.specs.Limits.{most_firms, most_trades};
+ghost use Rattle.tn_model.specs.Network.{IsNetwork};
 ghost use Rattle.tn_residual.specs.Residual.{bought_from, halves_from, residual_trades, sold_to, unsigned_from};
 ghost use Rattle.tn_market.specs.NetworkOf.{network_of};
 

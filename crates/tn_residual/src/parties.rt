@@ -4,8 +4,8 @@ ghost use Rattle.std.specs.Prelude.{◌≡◌, ℕ, ◌++◌, ◌*◌, ◌+◌, 
 ghost use Rattle.tn_base.specs.Arcs.{IsAtMost};
 ghost use Rattle.tn_market.specs.Levied.{levied_limit};
 ghost use Rattle.tn_market.specs.Limits.{IsOutcomeOf, IsWithinLimits};
-ghost use Rattle.tn_plain_data.specs.Limits.{most_claimed_over, most_numerator, most_worth_among};
-ghost use Rattle.tn_plain_data.specs.Network.{part};
+ghost use Rattle.tn_model.specs.Limits.{most_claimed_over, most_numerator, most_worth_among};
+ghost use Rattle.tn_model.specs.Network.{part};
 ghost use Rattle.tn_residual.specs.Residual.{levied_from, outsides, residual_limit, residual_of, unsigned};
 ghost use Rattle.tn_market.specs.NetworkOf.{network_of};
 
@@ -21,7 +21,7 @@ const FEW_TRADES: u32 = 128;
 const MOST_WORTH_AMONG_MANY: i128 = 1_240_000_000;
 
 /// A bound on the size of each worth of a market's firms, by how many trades it has.
-#[tactic(auto, unfolding(tn_plain_data::specs::Limits::most_worth_among))]
+#[tactic(auto, unfolding(tn_model::specs::Limits::most_worth_among))]
 fn most_worth_among(trades: u32) -> i128
     ensures { result ≡ pos (most_worth_among trades) }
 {

@@ -2,7 +2,7 @@
 
 ghost use Rattle.std.specs.Prelude.{◌≡◌, ◌*◌, ◌<◌, ◌≤◌, All, IfOk, pos, ◌≤ℤ◌, ◌*ℤ◌, length, map};
 ghost use Rattle.tn_market.specs.Limits.{IsOutcomeOf, IsWithinLimits};
-ghost use Rattle.tn_plain_data.specs.Limits.{most_claimed_over};
+ghost use Rattle.tn_model.specs.Limits.{most_claimed_over};
 ghost use Rattle.tn_residual.specs.Residual.{residual_limit, residual_of, residual_trades};
 ghost use Rattle.tn_residual.specs.Surplus.{IsSurplusOfReduced};
 ghost use Rattle.tn_market.specs.NetworkOf.{network_of};

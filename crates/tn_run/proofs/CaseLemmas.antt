@@ -14,7 +14,7 @@ use Rattle.std.proofs.lemmas.Slice.Eq.{bytes_eq-Decides}
 use Rattle.tn_answer.specs.AnswerText.{answer_line}
 use Rattle.tn_cases.specs.Book.{cases_of_the_book}
 use Rattle.tn_cases.specs.Case.{CaseData, agrees_with}
-use Rattle.tn_plain_data.specs.declared.said.Said.{Said}
+use Rattle.tn_said.specs.declared.said.Said.{Said}
 use Rattle.tn_names.specs.Names.{NameLists}
 use Rattle.tn_run.specs.Answer.{document_limit}
 use Rattle.tn_run.specs.Cases.{AreFailed, IsCaseAnswer, IsPassed}

@@ -1,12 +1,12 @@
 -- What was read fits what is asked about it: its firms and trades are few, and its worths small enough for so many.
 use Rattle.std.proofs.Common.{◌≡◌, ◌≤◌, length, map, sym, subst, arith}
 use Rattle.std.proofs.lemmas.List.{length-map}
-use Rattle.tn_plain_data.specs.Limits.{most_firms, most_trades}
+use Rattle.tn_model.specs.Limits.{most_firms, most_trades}
 use Rattle.tn_market.specs.Traded.{Traded}
 use Rattle.tn_firm.specs.declared.value.FirmValue.{FirmValue}
 use Rattle.tn_firm.specs.Firms.{firm_of}
 use Rattle.tn_firm.specs.Raw.{raw_firm_of}
-use Rattle.tn_command.specs.Limits.{AreWorthsAnswered}
+use Rattle.tn_commands.specs.Limits.{AreWorthsAnswered}
 use Rattle.tn_file.specs.declared.need.Need.{Need}
 use Rattle.tn_file.specs.declared.document.Document.{Document}
 use Rattle.tn_file.specs.declared.document.Content.{Content}

@@ -1,5 +1,4 @@
 -- The files of lemmas of this crate.
-pub mod TestLemmas
 pub mod TakenLemmas
 pub mod FitLemmas
 pub mod PartLemmas

@@ -4,15 +4,15 @@ use Rattle.std.proofs.Common.{◌≡◌, ◌≢◌, ℕ, ◌<◌, ℤ, pos, List
 use Rattle.std.specs.Prelude.{Ok, Err, Some, All, IfOk, IfSome, get_or, slice_get}
 use Rattle.std.specs.List.Sorted.{IsStrictlyIncreasing}
 use Rattle.std.proofs.lemmas.Option.{slice_get-get_or}
-use Rattle.tn_base.specs.declared.fault.FaultKind.TheVariants.{TooLong}
-use Rattle.tn_plain_data.specs.declared.ends.Ends.{Ends}
-use Rattle.tn_plain_data.specs.declared.said.Fault.{Fault as FaultIs}
-use Rattle.tn_plain_data.specs.declared.said.Said.{Said}
-use Rattle.tn_plain_data.specs.declared.said.Said.TheVariants.{Firms as FirmsIs, Equilibrium, Better, Impossible, Fault, Accepted, ExchangeFails, Supported, Cycle, Solved, Ranges, Session as SessionIs, Drops, Completes, Blocks}
-use Rattle.tn_plain_data.specs.Prices.{price_at}
-use Rattle.tn_plain_data.specs.Network.{part}
-use Rattle.tn_market.specs.Judged.{Judges}
-use Rattle.tn_plain_data.proofs.NetworkLemmas.{on_ascends}
+use Rattle.tn_said.specs.declared.fault.FaultKind.TheVariants.{TooLong}
+use Rattle.tn_model.specs.declared.ends.Ends.{Ends}
+use Rattle.tn_said.specs.declared.said.Fault.{Fault as FaultIs}
+use Rattle.tn_said.specs.declared.said.Said.{Said}
+use Rattle.tn_said.specs.declared.said.Said.TheVariants.{Firms as FirmsIs, Equilibrium, Better, Impossible, Fault, Accepted, ExchangeFails, Supported, Cycle, Solved, Ranges, Session as SessionIs, Drops, Completes, Blocks}
+use Rattle.tn_model.specs.Prices.{price_at}
+use Rattle.tn_model.specs.Network.{part}
+use Rattle.tn_commands.specs.Check.{ChecksArrangement}
+use Rattle.tn_model.proofs.NetworkLemmas.{on_ascends}
 use Rattle.tn_answer.specs.Apart.{AreNamedEnds, HasShortNumbers, IsNamedAnswer}
 use Rattle.tn_names.specs.Names.{NameLists}
 use Rattle.tn_names.specs.Named.{IsNamed}
@@ -27,21 +27,21 @@ use Rattle.tn_read_head.specs.Refused.{Reads}
 use Rattle.tn_file.specs.Refusal.{document_view}
 use Rattle.tn_file.proofs.DocumentLeads.{documents_are_networks}
 use Rattle.tn_file.proofs.DocumentStops.{faults_are_sayable}
-use Rattle.tn_run.specs.Answer.{ChecksExtra, EditsExtra, FirmsExtra, JudgesExtra, ReplaysExtra, SupportsExtra, IsAnswerOf, KeepsRules}
+use Rattle.tn_run.specs.Answer.{ChecksExtra, SessionExtra, FirmsExtra, JudgesExtra, ReplaysExtra, SupportsExtra, IsAnswerOf, KeepsRules}
 use Rattle.tn_price.proofs.CycleLemmas.{nodes_inside}
-use Rattle.tn_command.specs.Edited.{TellsStates}
-use Rattle.tn_command.specs.Outcome.{JudgesOutcome}
-use Rattle.tn_command.specs.Ranged.{TellsRanges}
-use Rattle.tn_command.proofs.RangeLemmas.{high_inside, low_inside}
-use Rattle.tn_plain_data.specs.declared.contract.Contract.{Contract}
-use Rattle.tn_plain_data.specs.declared.session.Edit.{Edit}
-use Rattle.tn_plain_data.specs.Choices.{contracts_of}
-use Rattle.tn_plain_data.proofs.ContractLemmas.{contract_trades, contracts_are}
-use Rattle.tn_command.specs.Solved.{Solves}
-use Rattle.tn_command.specs.Supported.{SupportsSet}
-use Rattle.tn_holding.specs.Held.{TellsHoldings}
+use Rattle.tn_commands.specs.Session.{TellsStates}
+use Rattle.tn_commands.specs.Judge.{JudgesOutcome}
+use Rattle.tn_commands.specs.Range.{TellsRanges}
+use Rattle.tn_commands.proofs.RangeLemmas.{high_inside, low_inside}
+use Rattle.tn_model.specs.declared.contract.Contract.{Contract}
+use Rattle.tn_said.specs.declared.session.Edit.{Edit}
+use Rattle.tn_model.specs.Choices.{contracts_of}
+use Rattle.tn_model.proofs.ContractLemmas.{contract_trades, contracts_are}
+use Rattle.tn_commands.specs.Solve.{Solves}
+use Rattle.tn_commands.specs.Support.{SupportsSet}
+use Rattle.tn_raw_answers.specs.Firms.{TellsHoldings}
 use Rattle.tn_price.proofs.JudgeLemmas.{some_item}
-use Rattle.tn_run.specs.Tested.{Tests}
+use Rattle.tn_raw_answers.specs.Test.{Tests}
 use Rattle.tn_run.proofs.OwnLemmas.{firm_named, bundle_named, bundle_ascends, failure_named, failure_ascends, set_named}
 use Rattle.tn_run.proofs.ReplayLemmas.{decided_named, decided_ascends}
 use Rattle.tn_run.specs.Words.{need_of}
@@ -50,7 +50,7 @@ use Rattle.tn_run.specs.declared.command.Command.TheVariants.{Check, Firms, Judg
 
 module _ (need : Need) (doc : DocumentData) (is : IsDocument need doc) where
   -- the answer of `check`
-  judged_named : (scale : ℤ) (on : ℕ) (prices : ℕ → ℤ) (said : Said) → Judges doc.firms doc.ends scale on prices said
+  judged_named : (scale : ℤ) (on : ℕ) (prices : ℕ → ℤ) (said : Said) → ChecksArrangement doc.firms doc.ends scale on prices said
       → IsNamedAnswer doc.names said
   judged_named scale on prices (Equilibrium surplus) judges = tt
   judged_named scale on prices (Better f bundle gain) judges =
@@ -113,7 +113,7 @@ module _ (need : Need) (doc : DocumentData) (is : IsDocument need doc) where
   tested_named said tests = absurd tests
 
   -- their lists of trades ascend
-  judged_ascends : (scale : ℤ) (on : ℕ) (prices : ℕ → ℤ) (said : Said) → Judges doc.firms doc.ends scale on prices said
+  judged_ascends : (scale : ℤ) (on : ℕ) (prices : ℕ → ℤ) (said : Said) → ChecksArrangement doc.firms doc.ends scale on prices said
       → HasAscendingTrades said
   judged_ascends scale on prices (Equilibrium surplus) judges = tt
   judged_ascends scale on prices (Better f bundle gain) judges =
@@ -199,7 +199,7 @@ module _ (need : Need) (doc : DocumentData) (is : IsDocument need doc) where
       }
   states_named listed said tells = absurd tells
 
-  edited_named : (extra : ExtraData) (said : Said) → EditsExtra doc extra said → IsNamedAnswer doc.names said
+  edited_named : (extra : ExtraData) (said : Said) → SessionExtra doc extra said → IsNamedAnswer doc.names said
   edited_named (edits listed) said tells = states_named listed said tells
   edited_named extra said tells = absurd tells
 
@@ -217,7 +217,7 @@ module _ (need : Need) (doc : DocumentData) (is : IsDocument need doc) where
       }
   states_ascend listed said tells = absurd tells
 
-  edited_ascends : (extra : ExtraData) (said : Said) → EditsExtra doc extra said → HasAscendingTrades said
+  edited_ascends : (extra : ExtraData) (said : Said) → SessionExtra doc extra said → HasAscendingTrades said
   edited_ascends (edits listed) said tells = states_ascend listed said tells
   edited_ascends extra said tells = absurd tells
 
@@ -352,7 +352,7 @@ no_fault Replay doc fault answer = by_extra doc.extra answer
     by_extra extra decides = decides
 no_fault Session doc fault answer = by_extra doc.extra answer
   where
-    by_extra : (extra : ExtraData) → EditsExtra doc extra (Fault fault) → ⊥
+    by_extra : (extra : ExtraData) → SessionExtra doc extra (Fault fault) → ⊥
     by_extra (edits listed) states = states
     by_extra extra states = states
 

@@ -10,8 +10,8 @@ use Rattle.tn_file.specs.Document.{DocumentData}
 use Rattle.tn_file.specs.Laws.{IsDocument}
 use Rattle.tn_local.proofs.FirstLemmas.{triple_fails}
 use Rattle.tn_read_firms.proofs.ShownLemmas.{OwnAreNamed, own_position_of, trades_named, triple_named}
-use Rattle.tn_plain_data.specs.Network.{own, trades_of, trades_on}
-use Rattle.tn_plain_data.proofs.NetworkLemmas.{ascending_trades, on_ascends, on_below}
+use Rattle.tn_model.specs.Network.{own, trades_of, trades_on}
+use Rattle.tn_model.proofs.NetworkLemmas.{ascending_trades, on_ascends, on_below}
 use Rattle.tn_names.specs.Named.{IsNamed, IsNamedTriple, IsAscendingTriple}
 
 module _ (need : Need) (doc : DocumentData) (is : IsDocument need doc) where

@@ -1,19 +1,19 @@
 -- What a command answers on the part that it alone reads.
 use Rattle.std.proofs.Common.{◌≡◌, ℕ, List, map, Result, sym, subst, true≢false}
 use Rattle.std.specs.Prelude.{IfOk}
-use Rattle.tn_plain_data.specs.declared.claim.Claim.{Claim as ClaimIs}
-use Rattle.tn_plain_data.specs.declared.contract.Outcome.{Outcome as OutcomeIs}
-use Rattle.tn_plain_data.specs.declared.said.Said.{Said}
-use Rattle.tn_plain_data.specs.declared.session.Edit.{Edit}
+use Rattle.tn_said.specs.declared.claim.Claim.{Claim as ClaimIs}
+use Rattle.tn_model.specs.declared.contract.Outcome.{Outcome as OutcomeIs}
+use Rattle.tn_said.specs.declared.said.Said.{Said}
+use Rattle.tn_said.specs.declared.session.Edit.{Edit}
 use Rattle.tn_names.specs.Names.{NameLists}
 use Rattle.tn_firm.specs.declared.value.FirmValue.{FirmValue}
 use Rattle.tn_firm.specs.Firms.{firm_of}
 use Rattle.tn_firm.specs.Raw.{raw_firm_of}
 use Rattle.tn_market.specs.Traded.{Traded}
-use Rattle.tn_command.specs.Claimed.{DecidesClaim}
-use Rattle.tn_command.specs.Edited.{TellsStates}
-use Rattle.tn_command.specs.Outcome.{JudgesOutcome}
-use Rattle.tn_command.specs.Supported.{SupportsSet}
+use Rattle.tn_commands.specs.Replay.{DecidesClaim}
+use Rattle.tn_commands.specs.Session.{TellsStates}
+use Rattle.tn_commands.specs.Judge.{JudgesOutcome}
+use Rattle.tn_commands.specs.Support.{SupportsSet}
 use Rattle.tn_file.specs.declared.document.Content.{Content}
 use Rattle.tn_file.specs.declared.document.Content.TheVariants.{Market, Raw}
 use Rattle.tn_file.specs.declared.document.Document.{Document}
@@ -24,7 +24,7 @@ use Rattle.tn_file.specs.Refusal.{IsFor, document_view}
 use Rattle.tn_run.specs.declared.command.Command.{Command}
 use Rattle.tn_run.specs.declared.command.Command.TheVariants.{Judge, Range, Replay, Session, Solve, Support, Test}
 use Rattle.tn_run.specs.Answer.{IsAnswerOf, network_alone}
-use Rattle.tn_run.specs.Tested.{Tests}
+use Rattle.tn_raw_answers.specs.Test.{Tests}
 use Rattle.tn_run.specs.Words.{need_of}
 
 -- a document is what it holds

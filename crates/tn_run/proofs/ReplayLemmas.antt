@@ -1,37 +1,33 @@
 -- A reason against a document's claim speaks only of firms and trades that have a name, and its bundles ascend.
-use Rattle.std.proofs.Common.{◌≡◌, ℕ, ◌+◌, ◌^◌, ◌<◌, ℤ, pos, List, [], ◌∷◌, ◌++◌, length, map, take, refl, sym, ap, subst, ◌∙◌}
-use Rattle.std.specs.Prelude.{Option, Some, true, All, slice_get}
+use Rattle.std.proofs.Common.{◌≡◌, ℕ, ◌^◌, ◌<◌, ℤ, pos, List, length, map, refl, sym, subst}
+use Rattle.std.specs.Prelude.{Option, Some, All, slice_get}
 use Rattle.std.specs.List.Sorted.{IsStrictlyIncreasing}
-use Rattle.std.proofs.lemmas.List.{map_more}
 use Rattle.std.proofs.lemmas.Option.{slice_get_within, get_or_from_slice_get}
 use Rattle.std.proofs.lemmas.List.Elements.{All-get_or}
 use Rattle.tn_answer.specs.Apart.{IsNamedAnswer}
 use Rattle.tn_answer.specs.Kept.{HasAscendingTrades}
-use Rattle.tn_answer.specs.ReasonText.{IsNamedReason, IsReasonWithin, HasAscendingBundles}
+use Rattle.tn_answer.specs.ReasonText.{IsNamedReason, HasAscendingBundles}
 use Rattle.tn_base.specs.Firm.{Firm}
 use Rattle.tn_base.proofs.SetLemmas.{has_below}
 use Rattle.tn_cert.specs.Claims.{node_of}
 use Rattle.tn_cert.specs.Reasons.{LacksBest, RefutesEquilibrium, RefutesBetter, RefutesCycle, RefutesDrops, RefutesCompletes, RefutesBlocks, IsFirstUnsigned, IsFirstMispriced, Refutes}
-use Rattle.tn_cert.specs.declared.replayed.Replayed.TheVariants.{Invalid as InvalidIs}
 use Rattle.tn_cert.specs.Plans.{RefutesPlan}
-use Rattle.tn_cert.specs.Replays.{HasSmallSurplus, is_raw, reason_in}
-use Rattle.tn_command.specs.Claimed.{DecidesClaim}
+use Rattle.tn_commands.specs.Replay.{DecidesClaim}
 use Rattle.tn_file.specs.declared.need.Need.{Need}
 use Rattle.tn_file.specs.Document.{DocumentData}
 use Rattle.tn_file.specs.Laws.{IsDocument}
-use Rattle.tn_plain_data.specs.declared.claim.Claim.{Claim}
-use Rattle.tn_plain_data.specs.declared.claim.Claim.TheVariants.{Equilibrium, Better, Impossible, Accepted, ExchangeFails, Supported, Cycle, Solved, Drops, Completes, Blocks, NoPrices}
-use Rattle.tn_plain_data.specs.declared.contract.Contract.{Contract}
-use Rattle.tn_plain_data.specs.declared.contract.Outcome.{Outcome}
-use Rattle.tn_plain_data.specs.declared.ends.Ends.{Ends}
-use Rattle.tn_plain_data.specs.declared.part.Part.{Part}
-use Rattle.tn_plain_data.specs.declared.reason.Reason.{Reason}
-use Rattle.tn_plain_data.specs.declared.reason.Reason.TheVariants.{Impossible as ImpossibleIs, Better as BetterIs, Possible, Surplus, Gain, Exchange, Holds, Arc, Cost, Contract as ContractIs, Over, Price, Empty, Signed, Choice, Shares, Balance, Whole}
-use Rattle.tn_plain_data.specs.declared.said.Said.{Said}
-use Rattle.tn_plain_data.specs.declared.said.Said.TheVariants.{Valid, Invalid}
-use Rattle.tn_plain_data.specs.Prices.{price_at}
-use Rattle.tn_plain_data.specs.ClaimLimits.{IsFirmWith, IsClaimWithin, AreOffersWithin}
-use Rattle.tn_plain_data.specs.OutcomeLimits.{IsOutcomeWithin}
+use Rattle.tn_said.specs.declared.claim.Claim.{Claim}
+use Rattle.tn_said.specs.declared.claim.Claim.TheVariants.{Equilibrium, Better, Impossible, Accepted, ExchangeFails, Supported, Cycle, Solved, Drops, Completes, Blocks, NoPrices}
+use Rattle.tn_model.specs.declared.contract.Contract.{Contract}
+use Rattle.tn_model.specs.declared.contract.Outcome.{Outcome}
+use Rattle.tn_said.specs.declared.part.Part.{Part}
+use Rattle.tn_said.specs.declared.reason.Reason.{Reason}
+use Rattle.tn_said.specs.declared.reason.Reason.TheVariants.{Impossible as ImpossibleIs, Better as BetterIs, Possible, Surplus, Gain, Exchange, Holds, Arc, Cost, Contract as ContractIs, Over, Price, Empty, Signed, Choice, Shares, Balance, Whole}
+use Rattle.tn_said.specs.declared.said.Said.{Said}
+use Rattle.tn_said.specs.declared.said.Said.TheVariants.{Valid, Invalid}
+use Rattle.tn_model.specs.Prices.{price_at}
+use Rattle.tn_said.specs.ClaimLimits.{IsFirmWith, IsClaimWithin, AreOffersWithin}
+use Rattle.tn_model.specs.OutcomeLimits.{IsOutcomeWithin}
 use Rattle.tn_market.specs.Signed.{signed}
 use Rattle.tn_names.specs.Named.{IsNamed}
 use Rattle.tn_run.proofs.OwnLemmas.{firm_named, own_named, trade_named, bundle_named, bundle_ascends, failure_named, failure_ascends, set_named, set_ascends}
@@ -246,31 +242,3 @@ module _ (need : Need) (doc : DocumentData) (is : IsDocument need doc) where
   decided_ascends claim Valid decides = tt
   decided_ascends claim (Invalid reason) decides = reason_ascends claim reason decides
   decided_ascends claim said decides = absurd decides
-
--- trades at positions of a firm have no surplus
-pub small_in : (trades : List Ends) (reason : Reason) → HasSmallSurplus (InvalidIs reason)
-    → HasSmallSurplus (InvalidIs (reason_in trades reason))
-small_in trades (Exchange f x y at) small = tt
-small_in trades reason small = small
-
--- a reason against a claim on a network that is read raw has no number but a surplus
-pub raw_reason_small : (firms : List Firm) (trades : List Ends) (claim : Claim) (reason : Reason) → is_raw claim ≡ true
-    → Refutes firms trades claim reason → HasSmallSurplus (InvalidIs reason) → IsReasonWithin reason
-raw_reason_small firms trades Accepted (Exchange f x y at) kind refutes small = tt
-raw_reason_small firms trades Accepted reason kind refutes small = absurd refutes
-raw_reason_small firms trades (ExchangeFails f x y at) Holds kind refutes small = tt
-raw_reason_small firms trades (ExchangeFails f x y at) reason kind refutes small = absurd refutes
-raw_reason_small firms trades (NoPrices plan over) (Shares f) kind refutes small = tt
-raw_reason_small firms trades (NoPrices plan over) (ImpossibleIs f) kind refutes small = tt
-raw_reason_small firms trades (NoPrices plan over) (Balance t) kind refutes small = tt
-raw_reason_small firms trades (NoPrices plan over) (Whole on surplus) kind refutes small = small
-raw_reason_small firms trades (NoPrices plan over) reason kind refutes small = absurd refutes
-raw_reason_small firms trades claim reason kind refutes small = cc
-
--- one position more that is named
-pub named_push : (f : ℕ → ℕ) (xs : List ℕ) (i x y : ℕ) (done : List ℕ) → done ≡ map f (take i xs)
-    → slice_get xs i ≡ Some x → y ≡ f x → done ++ y ∷ [] ≡ map f (take (i + 1) xs)
-named_push f xs i x y done so_far at is =
-    ap (λ front. front ++ y ∷ []) so_far
-    ∙ ap (λ last. map f (take i xs) ++ last ∷ []) (is ∙ ap f (sym (get_or_from_slice_get xs i x x at)))
-    ∙ sym (map_more f xs i x (slice_get_within xs i x at))

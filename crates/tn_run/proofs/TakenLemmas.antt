@@ -1,8 +1,8 @@
 -- How much of a source is taken, whatever is said.
 use Rattle.std.proofs.Common.{◌≡◌, ℕ, ◌+◌, ◌≤◌, List, length, sym, subst, arith, ◌⊎◌, inl, inr}
 use Rattle.std.specs.Prelude.{Option}
-use Rattle.tn_plain_data.specs.declared.said.Said.{Said}
-use Rattle.tn_plain_data.specs.declared.said.Said.TheVariants.{Usage, ReadFault, NoMemory}
+use Rattle.tn_said.specs.declared.said.Said.{Said}
+use Rattle.tn_said.specs.declared.said.Said.TheVariants.{Usage, ReadFault, NoMemory}
 use Rattle.tn_io.specs.Source.{TakesAtMost}
 use Rattle.tn_io.proofs.Taken.{Consumes-TakesFirst}
 use Rattle.tn_names.specs.Names.{NameLists}

@@ -2,15 +2,15 @@
 use Rattle.std.proofs.Common.{pos, map, Result, sym, true≢false}
 use Rattle.std.specs.Prelude.{IfOk}
 use Rattle.std.proofs.lemmas.Result.{IfOk-weaker}
-use Rattle.tn_plain_data.specs.declared.arrangement.Arrangement.{Arrangement as ArrangementIs}
-use Rattle.tn_plain_data.specs.declared.said.Said.{Said}
-use Rattle.tn_plain_data.specs.Prices.{price_at}
+use Rattle.tn_model.specs.declared.arrangement.Arrangement.{Arrangement as ArrangementIs}
+use Rattle.tn_said.specs.declared.said.Said.{Said}
+use Rattle.tn_model.specs.Prices.{price_at}
 use Rattle.tn_names.specs.Names.{NameLists}
 use Rattle.tn_firm.specs.declared.value.FirmValue.{FirmValue}
 use Rattle.tn_firm.specs.Firms.{firm_of}
-use Rattle.tn_market.specs.Judged.{Judges}
+use Rattle.tn_commands.specs.Check.{ChecksArrangement}
 use Rattle.tn_market.specs.Traded.{Traded}
-use Rattle.tn_command.proofs.CheckLemmas.{judged_implies}
+use Rattle.tn_commands.proofs.CheckLemmas.{judged_implies}
 use Rattle.tn_file.specs.declared.document.Content.TheVariants.{Market}
 use Rattle.tn_file.specs.declared.extra.Extra.TheVariants.{Arrangement}
 use Rattle.tn_file.specs.Laws.{IsDocument}
@@ -23,7 +23,7 @@ use Rattle.tn_run.specs.Words.{need_of}
 pub verdict_answers : {E : Type 0} (command : Command) (names : NameLists) (market : Traded FirmValue)
     (at : ArrangementIs 16) (result : Result Said E) → IsFor (need_of command) (Market market (Arrangement at))
     → IsDocument (need_of command) (document_view (record { names = names; content = Market market (Arrangement at) }))
-    → IfOk result (Judges (map firm_of market.firms) market.trades (pos 1) at.on (price_at at.prices))
+    → IfOk result (ChecksArrangement (map firm_of market.firms) market.trades (pos 1) at.on (price_at at.prices))
     → IfOk result
     (IsAnswerOf command (document_view (record { names = names; content = Market market (Arrangement at) })))
 verdict_answers Check names market at result needed document judges =

@@ -2,13 +2,13 @@
 use Rattle.std.specs.Prelude.{◌≡◌, ◌≢◌, ℕ, ℤ, ◌+◌, ◌≤◌, ◌⊎◌, pos, List, [], length, Option, None, IfSome, Result, Ok, Err}
 use Rattle.std.specs.Io.KnownBytes.{Consumes, IsAtEnd}
 use Rattle.tn_base.specs.Firm.{Firm}
-use Rattle.tn_base.specs.declared.fault.FaultKind.TheVariants.{TooLong}
-use Rattle.tn_plain_data.specs.declared.ends.Ends.{Ends}
-use Rattle.tn_plain_data.specs.declared.said.Fault.{Fault as FaultIs}
-use Rattle.tn_plain_data.specs.declared.said.Said.{Said}
-use Rattle.tn_plain_data.specs.declared.said.Said.TheVariants.{Usage, ReadFault, NoMemory, Fault, Equilibrium}
-use Rattle.tn_plain_data.specs.Prices.{price_at}
-use Rattle.tn_market.specs.Judged.{Judges}
+use Rattle.tn_said.specs.declared.fault.FaultKind.TheVariants.{TooLong}
+use Rattle.tn_model.specs.declared.ends.Ends.{Ends}
+use Rattle.tn_said.specs.declared.said.Fault.{Fault as FaultIs}
+use Rattle.tn_said.specs.declared.said.Said.{Said}
+use Rattle.tn_said.specs.declared.said.Said.TheVariants.{Usage, ReadFault, NoMemory, Fault, Equilibrium}
+use Rattle.tn_model.specs.Prices.{price_at}
+use Rattle.tn_commands.specs.Check.{ChecksArrangement}
 use Rattle.tn_io.specs.Counts.{Rose}
 use Rattle.tn_io.specs.Source.{TakesFirst, TakesAtMost}
 use Rattle.tn_answer.specs.Apart.{HasShortNumbers, IsNamedAnswer}
@@ -18,15 +18,15 @@ use Rattle.tn_read_head.specs.Beside.{Stop}
 use Rattle.tn_file.specs.Document.{DocumentData, ExtraData, nothing, arrangement, on_alone, outcome, edits, claim, reading_of}
 use Rattle.tn_run.specs.declared.command.Command.{Command}
 use Rattle.tn_run.specs.declared.command.Command.TheVariants.{Check, Firms, Judge, Range, Replay, Session, Solve, Support, Test}
-use Rattle.tn_command.specs.Implied.{IsEfficientAndStable}
-use Rattle.tn_command.specs.Claimed.{DecidesClaim}
-use Rattle.tn_command.specs.Edited.{TellsStates}
-use Rattle.tn_command.specs.Outcome.{JudgesOutcome}
-use Rattle.tn_command.specs.Ranged.{TellsRanges}
-use Rattle.tn_command.specs.Solved.{Solves}
-use Rattle.tn_command.specs.Supported.{SupportsSet}
-use Rattle.tn_holding.specs.Held.{TellsHoldings}
-use Rattle.tn_run.specs.Tested.{Tests}
+use Rattle.tn_commands.specs.Implied.{IsEfficientAndStable}
+use Rattle.tn_commands.specs.Replay.{DecidesClaim}
+use Rattle.tn_commands.specs.Session.{TellsStates}
+use Rattle.tn_commands.specs.Judge.{JudgesOutcome}
+use Rattle.tn_commands.specs.Range.{TellsRanges}
+use Rattle.tn_commands.specs.Solve.{Solves}
+use Rattle.tn_commands.specs.Support.{SupportsSet}
+use Rattle.tn_raw_answers.specs.Firms.{TellsHoldings}
+use Rattle.tn_raw_answers.specs.Test.{Tests}
 use Rattle.tn_run.specs.Words.{need_of}
 
 -- how many bytes a document may have
@@ -35,7 +35,7 @@ document_limit = 4194304
 
 -- the verdict on the arrangement of a document, at scale 1; where that is an equilibrium, what it implies
 abbrev pub ChecksExtra : DocumentData → ExtraData → Said → Type 0
-ChecksExtra doc (arrangement at) said = Judges doc.firms doc.ends (pos 1) at.on (price_at at.prices) said
+ChecksExtra doc (arrangement at) said = ChecksArrangement doc.firms doc.ends (pos 1) at.on (price_at at.prices) said
     × ((surplus : ℤ) → said ≡ Equilibrium surplus → IsEfficientAndStable doc.firms doc.ends at.on (price_at at.prices))
 ChecksExtra doc extra said = ⊥
 
@@ -60,9 +60,9 @@ SupportsExtra doc (on_alone on) said = SupportsSet doc.firms doc.ends on said
 SupportsExtra doc extra said = ⊥
 
 -- the states after the edits of a document
-abbrev pub EditsExtra : DocumentData → ExtraData → Said → Type 0
-EditsExtra doc (edits listed) said = TellsStates doc.firms doc.ends listed said
-EditsExtra doc extra said = ⊥
+abbrev pub SessionExtra : DocumentData → ExtraData → Said → Type 0
+SessionExtra doc (edits listed) said = TellsStates doc.firms doc.ends listed said
+SessionExtra doc extra said = ⊥
 
 -- the defined answer of a command on a document
 abbrev pub IsAnswerOf : Command → DocumentData → Said → Type 0
@@ -71,7 +71,7 @@ IsAnswerOf Firms doc said = FirmsExtra doc doc.extra said
 IsAnswerOf Judge doc said = JudgesExtra doc doc.extra said
 IsAnswerOf Range doc said = TellsRanges doc.firms doc.ends said
 IsAnswerOf Replay doc said = ReplaysExtra doc doc.extra said
-IsAnswerOf Session doc said = EditsExtra doc doc.extra said
+IsAnswerOf Session doc said = SessionExtra doc doc.extra said
 IsAnswerOf Solve doc said = Solves doc.firms doc.ends said
 IsAnswerOf Support doc said = SupportsExtra doc doc.extra said
 IsAnswerOf Test doc said = Tests doc.firms doc.ends said

@@ -5,8 +5,8 @@ use Rattle.tn_answer.specs.AnswerText.{answer_line}
 use Rattle.tn_cases.specs.Book.{cases_of_the_book}
 use Rattle.tn_cases.specs.Case.{CaseData}
 use Rattle.tn_file.specs.Document.{reading_of}
-use Rattle.tn_plain_data.specs.declared.said.Said.{Said}
-use Rattle.tn_plain_data.specs.declared.said.Said.TheVariants.{Usage, NoMemory, Cases}
+use Rattle.tn_said.specs.declared.said.Said.{Said}
+use Rattle.tn_said.specs.declared.said.Said.TheVariants.{Usage, NoMemory, Cases}
 use Rattle.tn_names.specs.Names.{NameLists}
 use Rattle.tn_run.specs.Answer.{IsAnswerTo}
 use Rattle.tn_run.specs.Run.{status_of}

@@ -1,7 +1,7 @@
 -- What a run comes to where nothing failed.
 use Rattle.std.specs.Prelude.{◌≡◌, ℕ, ◌<◌, ◌≤◌, ◌⊎◌, List, length, Option}
-use Rattle.tn_plain_data.specs.declared.said.Said.{Said}
-use Rattle.tn_plain_data.specs.declared.said.Said.TheVariants.{NoMemory}
+use Rattle.tn_said.specs.declared.said.Said.{Said}
+use Rattle.tn_said.specs.declared.said.Said.TheVariants.{NoMemory}
 use Rattle.tn_answer.specs.declared.layout.Layout.{Layout}
 use Rattle.tn_io.specs.Counts.{Rose}
 use Rattle.tn_names.specs.Names.{NameLists}

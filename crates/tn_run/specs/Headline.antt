@@ -1,12 +1,12 @@
 -- The headline: what the answer of `solve` and of `judge` is, whatever bytes they read.
 use Rattle.std.specs.Prelude.{◌≡◌, ℕ, ◌⊎◌, Bool, true, false, List, Option, Ok, Err}
 use Rattle.std.specs.Io.KnownBytes.{Consumes, IsAtEnd}
-use Rattle.tn_command.specs.Solved.{Solves}
+use Rattle.tn_commands.specs.Solve.{Solves}
 use Rattle.tn_file.specs.Document.{DocumentData, reading_of}
 use Rattle.tn_io.specs.Counts.{Rose}
 use Rattle.tn_read_head.specs.Beside.{Stop}
-use Rattle.tn_plain_data.specs.declared.said.Said.{Said}
-use Rattle.tn_plain_data.specs.declared.said.Said.TheVariants.{ReadFault, NoMemory, Fault}
+use Rattle.tn_said.specs.declared.said.Said.{Said}
+use Rattle.tn_said.specs.declared.said.Said.TheVariants.{ReadFault, NoMemory, Fault}
 use Rattle.tn_run.specs.declared.command.Command.{Command}
 use Rattle.tn_run.specs.declared.command.Command.TheVariants.{Check, Firms, Judge, Range, Replay, Session, Solve, Support, Test}
 use Rattle.tn_run.specs.Answer.{FindsTooLong, JudgesExtra}

@@ -1,6 +1,5 @@
 -- The files of definitions of this crate.
 pub mod Words
-pub mod Tested
 pub mod Drilled
 pub mod Answer
 pub mod Run

@@ -1,7 +1,7 @@
 -- What a whole run comes to.
 use Rattle.std.specs.Prelude.{◌≡◌, ℕ, ◌==◌, ◌⊎◌, List, [], ◌∷◌, length, if◌then◌else◌, Option}
-use Rattle.tn_plain_data.specs.declared.said.Said.{Said}
-use Rattle.tn_plain_data.specs.declared.said.Said.TheVariants.{Usage, ReadFault, NoMemory, Fault, Equilibrium, Better, Impossible, Accepted, ExchangeFails, Supported, Cycle, Solved, Drill, Ranges, Session, Drops, Completes, Blocks, Valid, Invalid, Cases, Page as PageIs, Firms}
+use Rattle.tn_said.specs.declared.said.Said.{Said}
+use Rattle.tn_said.specs.declared.said.Said.TheVariants.{Usage, ReadFault, NoMemory, Fault, Equilibrium, Better, Impossible, Accepted, ExchangeFails, Supported, Cycle, Solved, Drill, Ranges, Session, Drops, Completes, Blocks, Valid, Invalid, Cases, Page as PageIs, Firms}
 use Rattle.tn_io.specs.Counts.{Rose}
 use Rattle.tn_io.specs.Sink.{Grows, GrowsByPrefix}
 use Rattle.tn_names.specs.Names.{NameLists}

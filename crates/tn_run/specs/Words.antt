@@ -9,10 +9,10 @@ use Rattle.tn_answer.specs.declared.layout.Layout.TheVariants.{Object, Rows, Wid
 use Rattle.tn_drill.specs.Draws.{most_drilled, most_start}
 use Rattle.tn_file.specs.declared.need.Need.{Need}
 use Rattle.tn_file.specs.declared.need.Need.TheVariants.{Market, Raw, Arrangement, RawArrangement, On, Outcome, Edits, Claim}
-use Rattle.tn_plain_data.specs.declared.said.Page.{Page}
-use Rattle.tn_plain_data.specs.declared.said.Page.TheVariants.{Help, Version, About}
-use Rattle.tn_plain_data.specs.declared.said.Topic.{Topic}
-use Rattle.tn_plain_data.specs.declared.said.Topic.TheVariants.{Check as CheckTopic, Firms as FirmsTopic, Test as TestTopic, Support as SupportTopic, Solve as SolveTopic, Range as RangeTopic, Session as SessionTopic, Judge as JudgeTopic, Replay as ReplayTopic, Drill as DrillTopic, Cases as CasesTopic}
+use Rattle.tn_said.specs.declared.said.Page.{Page}
+use Rattle.tn_said.specs.declared.said.Page.TheVariants.{Help, Version, About}
+use Rattle.tn_said.specs.declared.said.Topic.{Topic}
+use Rattle.tn_said.specs.declared.said.Topic.TheVariants.{Check as CheckTopic, Firms as FirmsTopic, Test as TestTopic, Support as SupportTopic, Solve as SolveTopic, Range as RangeTopic, Session as SessionTopic, Judge as JudgeTopic, Replay as ReplayTopic, Drill as DrillTopic, Cases as CasesTopic}
 use Rattle.tn_run.specs.declared.command.Command.{Command}
 use Rattle.tn_run.specs.declared.command.Command.TheVariants.{Check, Firms, Judge, Range, Replay, Session, Solve, Support, Test}
 

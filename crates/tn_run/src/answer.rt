@@ -6,25 +6,25 @@ ghost use Rattle.tn_file.specs.Document.{reading_of};
 ghost use Rattle.tn_file.specs.Laws.{IsDocument};
 ghost use Rattle.tn_file.specs.Refusal.{IsFor, document_view};
 ghost use Rattle.tn_firm.specs.Firms.{firm_of};
-ghost use Rattle.tn_plain_data.specs.Limits.{most_trades};
-ghost use Rattle.tn_command.specs.Limits.{AreWorthsAnswered};
+ghost use Rattle.tn_model.specs.Limits.{most_trades};
+ghost use Rattle.tn_commands.specs.Limits.{AreWorthsAnswered};
 ghost use Rattle.tn_run.specs.Answer.{IsAnswerOf, IsAnswerTo, KeepsRules, MayBeSaid, network_alone, too_long};
 ghost use Rattle.tn_run.specs.Words.{need_of};
 
 use crate::command::{Command, need_of};
-use crate::replaying::replay_raw;
-use crate::testing::test;
 use std::alloc::Global;
 use tn_answer::Names;
-use tn_base::{FaultKind, OutOfMemory};
-use tn_command::{
-    check, judge_outcome, price_ranges, prices_for, replay_claim, solve, states_after,
+use tn_base::OutOfMemory;
+use tn_commands::{
+    answer_check, answer_judge, answer_range, answer_replay, answer_session, answer_solve,
+    answer_support,
 };
 use tn_file::{Content, DocRefusal, Document, Extra, Need, RawExtra, read_doc};
 use tn_firm::FirmValue;
-use tn_holding::firm_holdings;
 use tn_io::{ReadStop, Source, read_all};
-use tn_market::{Fault, Market, Place, Said};
+use tn_market::Market;
+use tn_raw_answers::{answer_firms, answer_replay_raw, answer_test};
+use tn_said::{Fault, FaultKind, Place, Said};
 
 /// How many bytes a document may have.
 pub(crate) const DOCUMENT_LIMIT: usize = 4_194_304;
@@ -42,9 +42,9 @@ fn answer_network(
     ensures within { IfOk result IsWithinClaims }
 {
     match command {
-        Command::Range => price_ranges(alloc, market),
+        Command::Range => answer_range(alloc, market),
         // No other command but `solve` reads a network alone.
-        _ => solve(alloc, market),
+        _ => answer_solve(alloc, market),
     }
 }
 
@@ -58,16 +58,16 @@ fn answer_document(alloc: Global, command: Command, doc: &Document) -> Result<Sa
     match &doc.content {
         Content::Market(market, extra) => match extra {
             Extra::None => answer_network(alloc, command, market),
-            Extra::Arrangement(at) => check(alloc, market, at),
-            Extra::On(on) => prices_for(alloc, market, on),
-            Extra::Outcome(outcome) => judge_outcome(alloc, market, outcome),
-            Extra::Edits(edits) => states_after(alloc, market, edits),
-            Extra::Claim(claim) => replay_claim(alloc, market, claim),
+            Extra::Arrangement(at) => answer_check(alloc, market, at),
+            Extra::On(on) => answer_support(alloc, market, on),
+            Extra::Outcome(outcome) => answer_judge(alloc, market, outcome),
+            Extra::Edits(edits) => answer_session(alloc, market, edits),
+            Extra::Claim(claim) => answer_replay(alloc, market, claim),
         },
         Content::Raw(net, extra) => match extra {
-            RawExtra::None => test(alloc, net),
-            RawExtra::Arrangement(at) => firm_holdings(alloc, net.firms(), net.ends(), at),
-            RawExtra::Claim(claim) => replay_raw(alloc, net, claim),
+            RawExtra::None => answer_test(alloc, net),
+            RawExtra::Arrangement(at) => answer_firms(alloc, net.firms(), net.ends(), at),
+            RawExtra::Claim(claim) => answer_replay_raw(alloc, net, claim),
         },
     }
 }

@@ -16,7 +16,7 @@ use std::alloc::Global;
 use tn_answer::{Layout, Names, answer_text};
 use tn_base::OutOfMemory;
 use tn_cases::{Case, CaseBook, book};
-use tn_market::{Numbers, Said};
+use tn_said::{Numbers, Said};
 
 /// The answer to a case's command on its document, with the names that were read.
 fn answer_case(alloc: Global, case: &Case) -> Result<(Said, Names), OutOfMemory>

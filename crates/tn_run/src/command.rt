@@ -7,8 +7,8 @@ ghost use Rattle.tn_run.specs.Words.{are_no_command, asks_for_cases, asks_for_pa
 use crate::numbers::number_within;
 use tn_answer::Layout;
 use tn_file::Need;
-use tn_market::{Page, Topic};
-use tn_shape::value_of_word;
+use tn_read_shapes::value_of_word;
+use tn_said::{Page, Topic};
 
 /// The most trades of a drill network.
 const MOST_DRILLED: u32 = 64;

@@ -3,8 +3,8 @@
 ghost use Rattle.std.specs.Prelude.{◌≡◌, ℕ, true, false, List, None, Some, map, string_bytes};
 ghost use Rattle.std.specs.Process.{exit_status};
 ghost use Rattle.tn_answer.specs.Kept.{IsWithinClaims};
-ghost use Rattle.tn_plain_data.specs.declared.said.Page.{Page};
-ghost use Rattle.tn_plain_data.specs.declared.said.Said.{Said};
+ghost use Rattle.tn_said.specs.declared.said.Page.{Page};
+ghost use Rattle.tn_said.specs.declared.said.Said.{Said};
 ghost use Rattle.tn_names.specs.Names.{NameLists};
 ghost use Rattle.tn_run.specs.Answer.{MayBeSaid};
 ghost use Rattle.tn_run.specs.Cases.{MayBeCases};

@@ -7,8 +7,6 @@ mod command;
 mod exit;
 mod lines;
 mod numbers;
-mod replaying;
-mod testing;
 mod top;
 
 pub use casing::run_cases;

@@ -17,7 +17,7 @@ use std::alloc::Global;
 use tn_answer::{Layout, Names, read_fault_text};
 use tn_base::OutOfMemory;
 use tn_io::{LineReader, LineStop, ReadFailed, Sink, Source};
-use tn_market::Said;
+use tn_said::Said;
 
 /// The exit status where a write failed.
 const WRITE_FAILED: u8 = 4;

@@ -3,7 +3,7 @@
 ghost use Rattle.std.specs.Prelude.{◌≡◌, ◌≢◌, ◌≤◌, ◌⊎◌, ℕ, true, false, List, None, Some, map, string_bytes};
 ghost use Rattle.tn_answer.specs.AnswerText.{answer_line};
 ghost use Rattle.tn_answer.specs.declared.layout.Layout.{Layout};
-ghost use Rattle.tn_plain_data.specs.declared.said.Page.{Page};
+ghost use Rattle.tn_said.specs.declared.said.Page.{Page};
 ghost use Rattle.tn_names.specs.Names.{NameLists};
 ghost use Rattle.tn_answer.specs.Kept.{IsWithinClaims};
 ghost use Rattle.tn_drill.specs.Draws.{most_drilled, most_start};
@@ -24,9 +24,9 @@ use tn_answer::{
     Layout, Names, answer_text, no_memory_text, page_text, read_fault_text, usage_text,
 };
 use tn_base::OutOfMemory;
-use tn_command::drill_surplus;
+use tn_commands::answer_drill;
 use tn_io::{Sink, Source, SteadySink, SteadySource, WriteFailed, write_all};
-use tn_market::Said;
+use tn_said::Said;
 
 /// What a run has come to: its exit status, and the answer whose text was written. Where the status is 4 a prefix of
 /// the text was written.
@@ -140,7 +140,7 @@ fn drilled(alloc: Global, size: u32, start: u32) -> Said
     ensures drill { MayBeDrilled size start result }
     ensures within { IsWithinClaims result }
 {
-    match drill_surplus(alloc, size, start) {
+    match answer_drill(alloc, size, start) {
         Ok(said) => said,
         Err(OutOfMemory) => Said::NoMemory,
     }

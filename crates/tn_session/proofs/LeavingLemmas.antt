@@ -3,23 +3,23 @@ use Rattle.std.proofs.Common.{◌≡◌, ℕ, ◌-◌, sym, ◌∙◌, subst, �
 use Rattle.tn_base.specs.Firm.{Firm, MayAbstain}
 use Rattle.tn_base.specs.Walks.{arcs_among, is_looked_at, IsUnreached, KeepsArcs, KeepsArcsEntering}
 use Rattle.tn_base.proofs.WalkLemmas.{SameArcs, walk-same, least_cycle-same}
-use Rattle.tn_plain_data.specs.declared.ends.Ends.{Ends}
-use Rattle.tn_plain_data.specs.Network.{IsNetwork}
-use Rattle.tn_graph.specs.Blocks.{Blocks, arcs_of}
+use Rattle.tn_model.specs.declared.ends.Ends.{Ends}
+use Rattle.tn_model.specs.Network.{IsNetwork}
+use Rattle.tn_graph.specs.Blocks.{CostBlocks, arcs_of}
 use Rattle.tn_cycle.specs.Reading.{Reading}
 use Rattle.tn_cycle.specs.Answers.{IsLeastFound, label_in}
-use Rattle.tn_network.specs.Along.{along}
-use Rattle.tn_network.specs.Kept.{IsKept}
-use Rattle.tn_network.specs.Laws.{MeetExchange}
-use Rattle.tn_network.specs.Rounds.{arcs_with}
-use Rattle.tn_network.proofs.KeptLemmas.{keeps-same, entering-same, with_arcs}
-use Rattle.tn_network.proofs.BarLemmas.{one_cycle_bars_a_trade}
+use Rattle.tn_network_laws.specs.Along.{along}
+use Rattle.tn_network_laws.specs.Kept.{IsKept}
+use Rattle.tn_network_laws.specs.Laws.{MeetExchange}
+use Rattle.tn_network_laws.specs.Rounds.{arcs_with}
+use Rattle.tn_network_laws.proofs.KeptLemmas.{keeps-same, entering-same, with_arcs}
+use Rattle.tn_network_laws.proofs.BarLemmas.{one_cycle_bars_a_trade}
 use Rattle.tn_flow.specs.Underway.{AreKept}
 use Rattle.tn_flow.proofs.RoundLemmas.{last_node, looked_same as joined_same}
 use Rattle.tn_session.specs.Standing.{IsLeaving}
 
 -- the arcs that the search looks at
-looked_same : (firms : List Firm) (trades : List Ends) (graph : Blocks) (finder : Reading) (allowed on t : ℕ)
+looked_same : (firms : List Firm) (trades : List Ends) (graph : CostBlocks) (finder : Reading) (allowed on t : ℕ)
     → IsLeaving firms trades graph finder allowed on t
     → SameArcs (arcs_with firms trades allowed on t) (arcs_among (is_looked_at (finder.nodes - 1) t allowed)
     (arcs_of graph))
@@ -30,7 +30,7 @@ looked_same firms trades graph finder allowed on t leaving u v =
     (sym (joined_same firms trades on allowed t graph leaving.out leaving.under_way.arcs u v))
 
 -- what it asks for
-pub leaving_asks : (firms : List Firm) (trades : List Ends) (graph : Blocks) (finder : Reading) (allowed on t : ℕ)
+pub leaving_asks : (firms : List Firm) (trades : List Ends) (graph : CostBlocks) (finder : Reading) (allowed on t : ℕ)
     → IsLeaving firms trades graph finder allowed on t
     → KeepsArcs (arcs_among (is_looked_at (finder.nodes - 1) t allowed) (arcs_of graph)) (label_in finder.labels)
 leaving_asks firms trades graph finder allowed on t leaving =
@@ -39,7 +39,7 @@ leaving_asks firms trades graph finder allowed on t leaving =
     (label_in finder.labels) leaving.under_way.labels.keeps
 
 -- it can't find none
-pub leaving_never : (firms : List Firm) (trades : List Ends) (graph : Blocks) (finder : Reading) (allowed on t : ℕ)
+pub leaving_never : (firms : List Firm) (trades : List Ends) (graph : CostBlocks) (finder : Reading) (allowed on t : ℕ)
     → IsNetwork firms trades → MeetExchange firms
     → ((f : ℕ) (firm : Firm) → slice_get firms f ≡ Some firm → MayAbstain firm)
     → IsLeaving firms trades graph finder allowed on t
@@ -50,7 +50,7 @@ leaving_never firms trades graph finder allowed on t network meet abstain leavin
     (λ vs avoids. walk-same _ _ (looked_same firms trades graph finder allowed on t leaving) t vs t ∙ none vs)
 
 -- and the set along what it finds is an equilibrium's without the trade, with the labels that it leaves
-pub leaving_finds : (firms : List Firm) (trades : List Ends) (graph : Blocks) (finder : Reading) (allowed on t : ℕ)
+pub leaving_finds : (firms : List Firm) (trades : List Ends) (graph : CostBlocks) (finder : Reading) (allowed on t : ℕ)
     → IsNetwork firms trades → MeetExchange firms → IsLeaving firms trades graph finder allowed on t
     → (after : Reading) (cost : ℤ) (count : ℕ)
     → IsLeastFound (arcs_among (is_looked_at (finder.nodes - 1) t allowed) (arcs_of graph)) t after.listed cost

@@ -10,23 +10,23 @@ use Rattle.tn_base.proofs.SetLemmas.{has-toggle_same, has-toggle_other, toggle-t
 use Rattle.tn_base.specs.Arcs.{IsAtMost}
 use Rattle.tn_base.specs.Firm.{Firm, MayAbstain}
 use Rattle.tn_market.specs.Traded.{Traded}
-use Rattle.tn_plain_data.specs.Network.{IsNetwork}
+use Rattle.tn_model.specs.Network.{IsNetwork}
 use Rattle.tn_market.specs.Lawful.{IsLawful}
 use Rattle.tn_market.specs.Valued.{IsWorthAtMost}
-use Rattle.tn_plain_data.specs.Prices.{price_at}
-use Rattle.tn_graph.specs.Blocks.{Blocks}
+use Rattle.tn_model.specs.Prices.{price_at}
+use Rattle.tn_graph.specs.Blocks.{CostBlocks}
 use Rattle.tn_graph.specs.Reading.{IsExchangeAmong}
 use Rattle.tn_cycle.specs.Reading.{Reading}
 use Rattle.tn_cycle.specs.Answers.{AreLabels, AreNear, label_in}
 use Rattle.tn_base.specs.Walks.{arcs_among, is_admitted}
 use Rattle.tn_market.specs.Graph.{exchange_arc}
 use Rattle.tn_market.specs.Widths.{most_market_trades}
-use Rattle.tn_network.specs.Laws.{MeetExchange}
+use Rattle.tn_network_laws.specs.Laws.{MeetExchange}
 use Rattle.tn_flow.specs.Underway.{AreKept, AreUnderWay}
-use Rattle.tn_network.proofs.EachLemmas.{each_firm, each_within, meet_all}
-use Rattle.tn_network.proofs.SupportLemmas.{arcs_small}
-use Rattle.tn_network.proofs.BarLemmas.{one_cycle_bars_a_trade}
-use Rattle.tn_network.specs.Kept.{IsKept}
+use Rattle.tn_network_laws.proofs.EachLemmas.{each_firm, each_within, meet_all}
+use Rattle.tn_network_laws.proofs.SupportLemmas.{arcs_small}
+use Rattle.tn_network_laws.proofs.BarLemmas.{one_cycle_bars_a_trade}
+use Rattle.tn_network_laws.specs.Kept.{IsKept}
 use Rattle.tn_cycle.specs.GraphLemmas.{small-arcs_among}
 use Rattle.tn_flow.proofs.RoundLemmas.{near-wider, before_joined}
 use Rattle.tn_flow.proofs.SolverLemmas.{small_bound, solution_from}
@@ -152,7 +152,7 @@ settled firm_of limit_of market allowed on labels laws are = record {
 }
 
 pub holds : {V : Type 0} (firm_of : V → Firm) (limit_of : V
-    → ℕ) (market : Traded V) (graph : Blocks) (finder : Reading) (allowed on : ℕ) → HasLaws firm_of limit_of market
+    → ℕ) (market : Traded V) (graph : CostBlocks) (finder : Reading) (allowed on : ℕ) → HasLaws firm_of limit_of market
     → AreUnderWay (map firm_of market.firms) market.trades graph finder allowed on
     → HoldsEquilibrium firm_of (standing_of market allowed on finder.labels)
 holds firm_of limit_of market graph finder allowed on laws way =
@@ -209,7 +209,7 @@ without allowed t after e there = ap (λ (x : ℕ). has x t) e ∙ has-toggle_sa
 
 -- a session in which a trade is barred that is off
 pub barred_off : {V : Type 0} (firm_of : V → Firm) (limit_of : V
-    → ℕ) (width : ℕ) (market : Traded V) (graph : Blocks) (finder : Reading) (allowed on t after : ℕ)
+    → ℕ) (width : ℕ) (market : Traded V) (graph : CostBlocks) (finder : Reading) (allowed on t after : ℕ)
     → IsSession firm_of limit_of width market graph finder allowed on → after ≡ toggle allowed t → has allowed t ≡ true
     → has on t ≡ false → IsSession firm_of limit_of width market graph finder after on
 barred_off firm_of limit_of width market graph finder allowed on t after session e there off = record {

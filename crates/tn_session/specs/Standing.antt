@@ -6,9 +6,9 @@ use Rattle.tn_base.specs.Firm.{Firm}
 use Rattle.tn_base.specs.Widths.{most_cost}
 use Rattle.tn_market.specs.Limits.{AreWorthsWithin}
 use Rattle.tn_market.specs.Traded.{Traded}
-use Rattle.tn_plain_data.specs.declared.ends.Ends.{Ends}
-use Rattle.tn_plain_data.specs.Network.{IsNetwork}
-use Rattle.tn_graph.specs.Blocks.{Blocks}
+use Rattle.tn_model.specs.declared.ends.Ends.{Ends}
+use Rattle.tn_model.specs.Network.{IsNetwork}
+use Rattle.tn_graph.specs.Blocks.{CostBlocks}
 use Rattle.tn_cycle.specs.Reading.{Reading}
 use Rattle.tn_cycle.specs.Answers.{label_in}
 use Rattle.tn_flow.specs.Underway.{AreUnderWay}
@@ -56,7 +56,7 @@ pub record AreSettled {V : Type 0} (firm_of : V → Firm) (market : Traded V) (n
 
 -- what a session keeps: rounds that are under way, with such labels
 pub record IsSession {V : Type 0} (firm_of : V → Firm) (limit_of : V
-    → ℕ) (width : ℕ) (market : Traded V) (graph : Blocks) (finder : Reading) (allowed on : ℕ) : Type 0 where
+    → ℕ) (width : ℕ) (market : Traded V) (graph : CostBlocks) (finder : Reading) (allowed on : ℕ) : Type 0 where
   pub network : IsNetwork (map firm_of market.firms) market.trades
   pub wide : length market.trades ≤ 64 * width
   pub small : AreFirmsSmall limit_of market
@@ -66,7 +66,7 @@ pub record IsSession {V : Type 0} (firm_of : V → Firm) (limit_of : V
   pub settled : AreSettled firm_of market finder.labels
 
 -- rounds that are under way with a trade that is on, beside the admitted ones
-pub record IsLeaving (firms : List Firm) (trades : List Ends) (graph : Blocks) (finder : Reading)
+pub record IsLeaving (firms : List Firm) (trades : List Ends) (graph : CostBlocks) (finder : Reading)
     (allowed on t : ℕ) : Type 0 where
   pub under_way : AreUnderWay firms trades graph finder (toggle allowed t) on
   pub trade : t < length trades

@@ -3,7 +3,7 @@
 ghost use Rattle.std.specs.Prelude.{◌≡◌, ℕ, ◌+◌, ◌*◌, ◌≤◌, ◌<◌, ◌==◌, ◌&&◌, ◌||◌, not, true, false, length, map, IfOk};
 ghost use Rattle.tn_base.specs.Sets.{has};
 ghost use Rattle.tn_base.specs.Widths.{most_limbs};
-ghost use Rattle.tn_plain_data.specs.Prices.{price_at};
+ghost use Rattle.tn_model.specs.Prices.{price_at};
 ghost use Rattle.tn_cycle.specs.Answers.{AreNear};
 ghost use Rattle.tn_cycle.specs.Widths.{label_step};
 ghost use Rattle.tn_market.specs.Graph.{graph_worths};

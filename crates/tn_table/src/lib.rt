@@ -2,7 +2,7 @@
 //! What a table's firm is stands in `specs/`.
 #![tactic(auto)]
 
-mod asked;
+mod as_valuation;
 mod table;
 
 pub use table::{Table, TableRefused};

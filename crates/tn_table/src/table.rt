@@ -2,7 +2,7 @@
 
 ghost use Rattle.std.specs.Prelude.{◌↔◌};
 ghost use Rattle.tn_base.specs.Exchange.{NoneFails};
-ghost use Rattle.tn_exchange.specs.Rows.{firm_of_table, IsWithinLimits};
+ghost use Rattle.tn_exchange.specs.Rows.{firm_of_table, IsTableWithinLimits};
 
 use tn_base::Bundle;
 use tn_exchange::{RawTable, Verdict};
@@ -12,7 +12,7 @@ use tn_local::test_table;
 #[derive(Drop)]
 pub struct Table {
     pub(crate) raw: RawTable,
-    ghost within: { IsWithinLimits raw },
+    ghost within: { IsTableWithinLimits raw },
     ghost none_fails: { NoneFails (firm_of_table raw) },
 }
 

@@ -9,9 +9,9 @@ use mir.Val.{of_z, to_z}
 use Rattle.tn_base.specs.Sets.{has}
 use Rattle.tn_base.specs.Firm.{Firm}
 use Rattle.tn_base.proofs.SetLemmas.{set_of_within}
-use Rattle.tn_plain_data.specs.declared.ends.Ends.{Ends}
-use Rattle.tn_plain_data.specs.Network.{own, stands_at, IsNetwork, part}
-use Rattle.tn_plain_data.specs.Limits.{most_worth_among}
+use Rattle.tn_model.specs.declared.ends.Ends.{Ends}
+use Rattle.tn_model.specs.Network.{own, stands_at, IsNetwork, part}
+use Rattle.tn_model.specs.Limits.{most_worth_among}
 use Rattle.tn_market.specs.Graph.{ArePossible}
 use Rattle.tn_market.specs.Limits.{IsWithinLimits}
 use Rattle.tn_market.specs.Traded.{Traded}

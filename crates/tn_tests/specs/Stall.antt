@@ -3,8 +3,8 @@
 -- there.
 use Rattle.std.specs.Prelude.{ℕ, Bool, ◌==◌, if◌then◌else◌, ℤ, pos, negsuc, ◌+ℤ◌}
 use Rattle.tn_base.specs.Firm.{Firm}
-use Rattle.tn_law.specs.Additive.{additive}
-use Rattle.tn_plain_data.specs.declared.ends.Ends.{Ends}
+use Rattle.tn_firm_laws.specs.Additive.{additive}
+use Rattle.tn_model.specs.declared.ends.Ends.{Ends}
 
 -- position 0 is bought, and position 1 is sold
 abbrev pub amounts : ℕ → ℤ

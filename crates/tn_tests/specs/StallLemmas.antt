@@ -6,7 +6,7 @@ use Rattle.std.proofs.lemmas.Bool.{lt-ltb}
 use Rattle.std.proofs.lemmas.Option.{same_Some}
 use Rattle.tn_base.specs.Sets.{has, sum_over}
 use Rattle.tn_base.specs.Arcs.{IsAtMost}
-use Rattle.tn_law.proofs.AdditiveLemmas.{meets-additive}
+use Rattle.tn_firm_laws.proofs.AdditiveLemmas.{meets-additive}
 use Rattle.tn_market.specs.Lawful.{IsLawful}
 use Rattle.tn_market.specs.Valued.{IsWorthAtMost}
 use Rattle.tn_tests.specs.Stall.{amounts, stall, amounts_of}

@@ -3,7 +3,7 @@
 ghost use Rattle.std.specs.Prelude.{◌≡◌, List, IfOk, false, [], ◌∷◌};
 ghost use Rattle.tn_base.specs.Firm.{Firm};
 ghost use Rattle.tn_cert.specs.Replays.{is_raw};
-ghost use Rattle.tn_plain_data.specs.ClaimLimits.{IsClaimWithin, IsNumberWithin};
+ghost use Rattle.tn_said.specs.ClaimLimits.{IsClaimWithin, IsNumberWithin};
 ghost use Rattle.tn_tests.specs.Stall.{trade_between};
 
 use crate::stalls::{both_sold, ends, nothing_signed, sold_at_4, two_stalls};
@@ -12,8 +12,9 @@ use tn_base::{Asked, Bundle, Costs, OutOfMemory, Steps, TradeSet};
 use tn_cert::{Replayed, replay};
 use tn_chain::{chain_scale, reduced_graph};
 use tn_judge::{Judged, judge};
-use tn_market::{Arrangement, Claim, Nodes, Prices, Reason, Room, Valuation};
+use tn_market::{Arrangement, Nodes, Prices, Room, Valuation};
 use tn_residual::{contract_price, reduced_best, residual};
+use tn_said::{Claim, Reason};
 
 /// The seller keeps its contract at 4, and the buyer, to whom the thing is worth -3, drops its own. In the residual
 /// market the other trade stays, and a firm outside stands between the two stalls. Twice what a worth may be among two

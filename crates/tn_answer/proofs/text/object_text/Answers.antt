@@ -1,6 +1,6 @@
 -- What shows the clauses of `object_text` of `src/text.rt`.
 use Rattle.std.proofs.Common.{ap, sym, ◌∙◌}
-use Rattle.tn_plain_data.specs.declared.said.Said.{Said}
+use Rattle.tn_said.specs.declared.said.Said.{Said}
 use Rattle.tn_answer.specs.AnswerText.{answer_form, form_text}
 use Rattle.tn_answer.proofs.text.object_text.Goals as goal
 

@@ -2,7 +2,7 @@
 use Rattle.std.proofs.Common.{◌≡◌, sym, subst, IfOk, Result}
 use Rattle.serde_json.specs.Data.{Data}
 use Rattle.tn_names.specs.Names.{NameLists}
-use Rattle.tn_plain_data.specs.declared.said.Said.{Said}
+use Rattle.tn_said.specs.declared.said.Said.{Said}
 use Rattle.tn_answer.specs.AnswerText.{answer_data}
 use Rattle.tn_answer.specs.Sayable.{IsSayable}
 use Rattle.tn_answer.proofs.values.answer_value.Goals as goal

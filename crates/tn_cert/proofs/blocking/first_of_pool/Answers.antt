@@ -8,7 +8,7 @@ use mir.Syntax.{w128}
 use mir.Val.{SFits, to_z, of_z}
 use Rattle.tn_base.specs.Arcs.{IsAtMost}
 use Rattle.tn_market.specs.Widths.{most_asked_price}
-use Rattle.tn_plain_data.specs.declared.contract.Contract.{Contract}
+use Rattle.tn_model.specs.declared.contract.Contract.{Contract}
 use Rattle.tn_cert.proofs.BlockingLemmas.{AreTakenBefore, FindsLeftAt, one_taken, first_leaver, left_at}
 use Rattle.tn_cert.proofs.CountedLemmas.{pool_known, pool_room, pool_small}
 use Rattle.tn_cert.proofs.KeptLemmas.{firm_at, for_firm, listed}

@@ -4,7 +4,7 @@ use Rattle.std.proofs.lemmas.Int.{to_z-of_z}
 use mir.Syntax.{w128}
 use mir.Val.{SFits, to_z, of_z}
 use Rattle.tn_base.specs.Arcs.{IsAtMost}
-use Rattle.tn_plain_data.specs.Limits.{most_number, most_numerator}
+use Rattle.tn_model.specs.Limits.{most_number, most_numerator}
 use Rattle.tn_market.proofs.AscentLemmas.{smaller}
 use Rattle.tn_cert.specs.Greatest.{DecidesEqual}
 use Rattle.tn_cert.proofs.BlockingLemmas.{decides_contract, no_contract, price_small}

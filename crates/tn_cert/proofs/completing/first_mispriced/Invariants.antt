@@ -1,5 +1,5 @@
 -- What the loops of `first_mispriced` of `src/completing.rt` keep.
-use Rattle.tn_plain_data.specs.Prices.{price_at}
+use Rattle.tn_model.specs.Prices.{price_at}
 use Rattle.tn_cert.specs.Reasons.{AgreeBefore}
 use Rattle.tn_cert.proofs.completing.first_mispriced.Given as goal
 

@@ -3,7 +3,7 @@ use Rattle.std.proofs.Common.{rules, ◌∙◌, ℕ, ℤ, Some, None, map, sym, 
 use Rattle.std.proofs.lemmas.Int.{to_z-of_z}
 use mir.Syntax.{w128}
 use mir.Val.{SFits, to_z}
-use Rattle.tn_plain_data.specs.Prices.{price_at}
+use Rattle.tn_model.specs.Prices.{price_at}
 use Rattle.tn_market.specs.Signed.{signed}
 use Rattle.tn_cert.specs.Replays.{FindsLack}
 use Rattle.tn_cert.proofs.CompletedLemmas.{agreed, lack_refutes}

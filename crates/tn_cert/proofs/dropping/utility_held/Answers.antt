@@ -5,7 +5,7 @@ use Rattle.std.proofs.lemmas.Option.{same_Some}
 use mir.Syntax.{w128}
 use mir.Val.{SFits}
 use Rattle.tn_base.specs.Firm.{utility}
-use Rattle.tn_plain_data.specs.Prices.{price_at}
+use Rattle.tn_model.specs.Prices.{price_at}
 use Rattle.tn_market.specs.Signed.{contract_utility}
 use Rattle.tn_residual.proofs.HeldLemmas.{held_utility}
 use Rattle.tn_cert.proofs.dropping.utility_held.Goals as goal

@@ -3,7 +3,7 @@ use Rattle.std.proofs.Common.{subst, map, ℤ}
 use Rattle.std.proofs.lemmas.Int.{to_z-of_z}
 use mir.Syntax.{w128}
 use mir.Val.{SFits}
-use Rattle.tn_plain_data.specs.Prices.{price_at}
+use Rattle.tn_model.specs.Prices.{price_at}
 use Rattle.tn_cert.specs.Replays.{Weighs}
 use Rattle.tn_cert.proofs.equilibria.first_lack.Goals as goal
 

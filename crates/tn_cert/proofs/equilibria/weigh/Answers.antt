@@ -3,7 +3,7 @@ use Rattle.std.proofs.Common.{rules, sym, subst, ap, ◌∙◌, map, ℤ, Some}
 use Rattle.std.proofs.lemmas.Int.{to_z-of_z}
 use mir.Syntax.{w128}
 use mir.Val.{SFits}
-use Rattle.tn_plain_data.specs.Prices.{price_at}
+use Rattle.tn_model.specs.Prices.{price_at}
 use Rattle.tn_market.specs.Judged.{IsFirstBettered}
 use Rattle.tn_price.specs.Checks.{Checks}
 use Rattle.tn_price.specs.declared.check.Check.TheVariants.{Equilibrium}

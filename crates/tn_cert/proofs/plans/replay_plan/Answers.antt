@@ -9,7 +9,7 @@ use Rattle.tn_market.proofs.AscentLemmas.{smaller}
 use Rattle.tn_market.proofs.AskLemmas.{as_is}
 use Rattle.tn_market.specs.Widths.{most_utility}
 use Rattle.tn_firm.specs.Raw.{raw_firm_of}
-use Rattle.tn_plain_data.specs.Limits.{most_number}
+use Rattle.tn_model.specs.Limits.{most_number}
 use Rattle.tn_cert.specs.Plans.{IsWorthMore, IsWholeAsGreat, share_of, worth_of_plan}
 use Rattle.tn_cert.proofs.PlanSums.{all_abstain}
 use Rattle.tn_cert.proofs.plans.replay_plan.Goals as goal

@@ -5,10 +5,10 @@ use Rattle.std.proofs.lemmas.Int.{to_z-of_z}
 use mir.Syntax.{w128}
 use mir.Val.{SFits}
 use Rattle.tn_base.specs.Arcs.{IsAtMost}
-use Rattle.tn_law.proofs.BoundLemmas.{times_small}
+use Rattle.tn_firm_laws.proofs.BoundLemmas.{times_small}
 use Rattle.tn_market.proofs.AscentLemmas.{smaller}
 use Rattle.tn_market.specs.Widths.{most_worth}
-use Rattle.tn_plain_data.specs.Limits.{most_claimed_over, most_parts}
+use Rattle.tn_model.specs.Limits.{most_claimed_over, most_parts}
 use Rattle.tn_cert.specs.Limits.{most_weighed_worth}
 use Rattle.tn_cert.specs.Plans.{share_of}
 use Rattle.tn_cert.proofs.plans.rest_worth.Goals as goal

@@ -8,7 +8,7 @@ use Rattle.tn_market.proofs.AscentLemmas.{smaller}
 use Rattle.tn_market.proofs.AskLemmas.{as_is}
 use Rattle.tn_market.specs.Widths.{most_utility, most_worth}
 use Rattle.tn_firm.specs.Raw.{raw_firm_of}
-use Rattle.tn_plain_data.specs.Network.{part}
+use Rattle.tn_model.specs.Network.{part}
 use Rattle.tn_price.proofs.JudgeLemmas.{firm_is, part_within}
 use Rattle.tn_price.proofs.SurplusLemmas.{none_at}
 use Rattle.tn_cert.proofs.PlanSums.{IsSurplus, one_surplus}

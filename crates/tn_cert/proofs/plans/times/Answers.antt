@@ -3,8 +3,8 @@ use Rattle.std.proofs.Common.{◌*◌, ◌∙◌, ap, ap₂, arith, ℤ, ◌*ℤ
 use Rattle.std.proofs.lemmas.Int.{ints, to_z-of_z}
 use mir.Syntax.{w128}
 use mir.Val.{SFits, to_z, of_z}
-use Rattle.tn_law.proofs.BoundLemmas.{times_small}
-use Rattle.tn_plain_data.specs.Limits.{most_claimed_over, most_number, most_parts}
+use Rattle.tn_firm_laws.proofs.BoundLemmas.{times_small}
+use Rattle.tn_model.specs.Limits.{most_claimed_over, most_number, most_parts}
 use Rattle.tn_cert.proofs.plans.times.Goals as goal
 
 pub returns : goal.returns

@@ -4,7 +4,7 @@ use Rattle.std.proofs.lemmas.Int.{ints, to_z-of_z}
 use mir.Syntax.{w128}
 use mir.Val.{to_z, of_z}
 use Rattle.tn_base.specs.Sets.{has}
-use Rattle.tn_plain_data.specs.declared.part.Part.{Part}
+use Rattle.tn_said.specs.declared.part.Part.{Part}
 use Rattle.tn_cert.proofs.PlanSums.{IsWeight, one_weighed}
 use Rattle.tn_cert.proofs.plans.weight_at.Goals as goal
 

@@ -5,9 +5,9 @@ use Rattle.std.proofs.lemmas.List.{append-nil, take_all}
 use mir.Syntax.{w128}
 use mir.Val.{to_z, of_z}
 use Rattle.tn_base.specs.Arcs.{IsAtMost}
-use Rattle.tn_plain_data.specs.declared.contract.Contract.{Contract}
-use Rattle.tn_plain_data.specs.Choices.{counted}
-use Rattle.tn_plain_data.specs.Limits.{most_claimed_over, most_number}
+use Rattle.tn_model.specs.declared.contract.Contract.{Contract}
+use Rattle.tn_model.specs.Choices.{counted}
+use Rattle.tn_model.specs.Limits.{most_claimed_over, most_number}
 use Rattle.tn_cert.proofs.CountedLemmas.{all_at, counted_more}
 use Rattle.tn_cert.proofs.pool.add_counted.Goals as goal
 

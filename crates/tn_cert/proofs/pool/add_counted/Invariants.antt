@@ -1,6 +1,6 @@
 -- What the loops of `add_counted` of `src/pool.rt` keep.
 use Rattle.std.proofs.Common.{◌≡◌, ◌++◌, take}
-use Rattle.tn_plain_data.specs.Choices.{counted}
+use Rattle.tn_model.specs.Choices.{counted}
 use Rattle.tn_cert.proofs.pool.add_counted.Given as goal
 
 abbrev pub invariant-loop-k : goal.invariant-loop-k

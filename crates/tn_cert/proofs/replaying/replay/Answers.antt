@@ -4,9 +4,9 @@ use Rattle.std.specs.Prelude.{IfOk}
 use Rattle.std.proofs.lemmas.Int.{to_z-of_z}
 use mir.Syntax.{w128}
 use mir.Val.{SFits}
-use Rattle.tn_plain_data.specs.declared.claim.Claim.{Claim}
-use Rattle.tn_plain_data.specs.declared.claim.Claim.TheVariants.{Equilibrium}
-use Rattle.tn_plain_data.specs.ClaimLimits.{IsClaimWithin}
+use Rattle.tn_said.specs.declared.claim.Claim.{Claim}
+use Rattle.tn_said.specs.declared.claim.Claim.TheVariants.{Equilibrium}
+use Rattle.tn_said.specs.ClaimLimits.{IsClaimWithin}
 use Rattle.tn_cert.specs.Replays.{Replays}
 use Rattle.tn_cert.proofs.ReplayLemmas.{solved_if_ok}
 use Rattle.tn_cert.proofs.UtilityLemmas.{firm_has}

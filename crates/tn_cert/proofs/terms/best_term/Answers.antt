@@ -4,8 +4,8 @@ use Rattle.std.proofs.lemmas.Int.{to_z-of_z}
 use mir.Syntax.{w128}
 use mir.Val.{SFits}
 use Rattle.std.proofs.lemmas.Option.{same_Some}
-use Rattle.tn_plain_data.specs.declared.contract.Contract.{Contract}
-use Rattle.tn_cert.specs.Terms.{better, IsOffered, FindsTerm}
+use Rattle.tn_model.specs.declared.contract.Contract.{Contract}
+use Rattle.tn_cert.specs.Terms.{better, IsOnTrade, FindsTerm}
 use Rattle.tn_cert.proofs.TermLemmas.{is_left_out, is_kept, term_more, term_same}
 use Rattle.tn_cert.proofs.terms.best_term.Goals.{then-contract-t+then-ne, else-contract-t, else-contract-t-via-then-contract-t+else-ne, else-contract-t-via-else-contract-t}
 use Rattle.tn_cert.proofs.terms.best_term.Goals as goal
@@ -13,7 +13,7 @@ use Rattle.tn_cert.proofs.terms.best_term.Goals as goal
 pub loop-k-preserved : goal.loop-k-preserved
 loop-k-preserved c = elim c.if-contract-t.branch [
   | then-contract-t+then-ne w ↦
-      let offered : IsOffered c.args.contracts.now c.args.left_out c.args.t c.loop-k.k c.at-contract.result = record {
+      let offered : IsOnTrade c.args.contracts.now c.args.left_out c.args.t c.loop-k.k c.at-contract.result = record {
         is = c.at-contract.ensures;
         trade = w.if-contract-t.true;
         kept = is_kept c.args.left_out c.loop-k.k (sym w.ne.ensures ∙ w.if-ne.true);

@@ -1,6 +1,6 @@
 -- What shows the clauses of `gain_by` of `src/utilities.rt`.
 use Rattle.std.proofs.Common.{◌^◌, ◌<◌, sym, subst, map, ◌∙◌, ℤ, Some}
-use Rattle.tn_plain_data.specs.Prices.{price_at}
+use Rattle.tn_model.specs.Prices.{price_at}
 use Rattle.tn_price.proofs.JudgeLemmas.{part_within}
 use Rattle.tn_cert.specs.Replays.{TellsGain}
 use Rattle.tn_cert.proofs.UtilityLemmas.{firm_has, gain_told, gain_as_is, own_impossible, other_impossible}

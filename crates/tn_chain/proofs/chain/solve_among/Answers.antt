@@ -3,7 +3,7 @@ use Rattle.std.proofs.Common.{◌∙◌, ◌+◌, ◌*◌, ◌≤◌, ℕ, map, 
 use Rattle.std.proofs.lemmas.Nat.{mul-le}
 use Rattle.tn_base.specs.Firm.{Firm, HasOwnBundles}
 use Rattle.tn_market.specs.Parties.{party_firm, party_laws, party_limit}
-use Rattle.tn_network.proofs.EachLemmas.{each_firm}
+use Rattle.tn_network_laws.proofs.EachLemmas.{each_firm}
 use Rattle.tn_residual.proofs.MakingLemmas.{outcome_feasible}
 use Rattle.tn_residual.specs.Residual.{residual_limit, number_from}
 use Rattle.tn_chain.specs.Numbers.{AreNumbers, AreNumbersUpTo}

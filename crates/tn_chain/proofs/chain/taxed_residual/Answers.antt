@@ -5,7 +5,7 @@ use Rattle.std.proofs.lemmas.List.{length-map}
 use mir.Syntax.{w128}
 use mir.Val.{SFits, to_z, of_z}
 use Rattle.tn_market.specs.Parties.{party_firm, party_limit}
-use Rattle.tn_plain_data.specs.Limits.{most_claimed_over}
+use Rattle.tn_model.specs.Limits.{most_claimed_over}
 use Rattle.tn_chain.specs.Search.{chain_scale}
 use Rattle.tn_chain.proofs.SizeLemmas.{scale_small, is_residual}
 use Rattle.tn_chain.proofs.ChainLemmas.{three_ok}

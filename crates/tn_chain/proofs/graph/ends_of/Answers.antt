@@ -2,7 +2,7 @@
 use Rattle.std.proofs.Common.{arith, sym, length, ◌≤◌}
 use Rattle.std.proofs.lemmas.Option.{slice_get_past}
 use Rattle.tn_base.specs.Firm.{Firm}
-use Rattle.tn_network.proofs.EachLemmas.{each_firm}
+use Rattle.tn_network_laws.proofs.EachLemmas.{each_firm}
 use Rattle.tn_chain.proofs.graph.ends_of.Goals as goal
 
 pub returns-then-node-trades-clause-positions : goal.returns-then-node-trades-clause-positions

@@ -4,7 +4,7 @@ use Rattle.std.proofs.lemmas.Int.{ints}
 use Rattle.std.proofs.lemmas.Option.{slice_get_cases}
 use Rattle.tn_market.specs.Reduced.{reduced}
 use Rattle.tn_market.proofs.LevyLemmas.{difference_fits, difference_is}
-use Rattle.tn_network.proofs.SupportLemmas.{loss_of}
+use Rattle.tn_network_laws.proofs.SupportLemmas.{loss_of}
 use Rattle.tn_chain.proofs.MoveLemmas.{item_small, known_small, found_small}
 use Rattle.tn_chain.proofs.graph.reduced_loss.Goals as goal
 

@@ -2,7 +2,7 @@
 use Rattle.std.proofs.Common.{◌+◌, ◌-◌, ◌*◌, arith, length, take}
 use Rattle.tn_base.specs.Walks.{arcs_among}
 use Rattle.tn_cycle.specs.Answers.{arc_count, label_in}
-use Rattle.tn_cycle.specs.Graphs.{is_between}
+use Rattle.tn_cycle.specs.Graphs.{is_trade_from}
 use Rattle.tn_cycle.specs.Kept.{flag_at}
 use Rattle.tn_cycle.specs.Widths.{label_step, most_graph_nodes, most_label}
 use Rattle.tn_cycle.proofs.GrownLemmas.{first_avoiding, marked_all, marked_off, near_more, none_keeps, null_avoiding, null_unmarked, part_grown, unmarked, whole_grown}
@@ -23,7 +23,7 @@ loop-first-preserved g c =
     let found = c.find_added-found in
     let reach = (null - c.loop-first.first) * label_step most_graph_nodes in
     record {
-      keeps = none_keeps (arcs_among (is_between (c.loop-first.first - 1) null) (g.C.Costs.arc c.args.costs.now))
+      keeps = none_keeps (arcs_among (is_trade_from (c.loop-first.first - 1) null) (g.C.Costs.arc c.args.costs.now))
           (c.loop-first.first - 1) (label_in found.new.labels)
           (take (arc_count found.result) found.new.path) found.result found.ensures.answer found.ensures.keeps
           (omega (arith, c.arcs.ensures, c.if-arcs-gt0.false));

@@ -6,7 +6,7 @@ use Rattle.std.specs.Prelude.{unwrap_or}
 use Rattle.tn_cycle.specs.declared.cell.Cell.{Cell}
 use Rattle.tn_cycle.specs.Answers.{label_in}
 use Rattle.tn_cycle.specs.Cells.{cell_at, no_cell}
-use Rattle.tn_cycle.specs.Kept.{IsOffered, is_ready, node_at}
+use Rattle.tn_cycle.specs.Kept.{IsOffered, is_ready, node_in_list}
 use Rattle.tn_cycle.specs.Queue.{IsBefore}
 use Rattle.tn_cycle.proofs.HeapLemmas.{lower_heap, other_heap}
 use Rattle.tn_cycle.proofs.ListLemmas.{ready}
@@ -69,11 +69,11 @@ rise-requires-clause-heap c =
     let cost = some_cost own.cost (sym c.is_some.ensures ∙ c.if-is_some.true) in
     let at = c.requires.ready (ready c.args.waits own cost.0 c.if-not-waits.false cost.1) in
     let place = place_of labels row list c.args.places.now c.args.count c.requires.queue v in
-    let here : node_at c.args.places.now v ≡ at.0 = place at.0 at.1 at.2 in
+    let here : node_in_list c.args.places.now v ≡ at.0 = place at.0 at.1 at.2 in
     lower_heap (IsBefore (label_in labels) (cell_at row)) (IsBefore (label_in labels) (cell_at (set row v new))) v list
     c.args.count (same_order labels row v new c.requires.sized) (before-trans (label_in labels) (cell_at row))
     (forward_order labels row v new c.requires.sized cost.0 cost.1 (offers.by_own cost.0 cost.1))
-    (node_at c.args.places.now v) (ap (node_at list) here ∙ at.2) (λ i inside is. sym (place i inside is))
+    (node_in_list c.args.places.now v) (ap (node_in_list list) here ∙ at.2) (λ i inside is. sym (place i inside is))
     c.requires.heap (omega (arith, here, at.1))
 
 pub push-requires-clause-heap : goal.push-requires-clause-heap
@@ -146,7 +146,7 @@ rise-requires-clause-inside c =
     let own = cell_at c.args.row.now c.args.v in
     let cost = some_cost own.cost (sym c.is_some.ensures ∙ c.if-is_some.true) in
     let at = c.requires.ready (ready c.args.waits own cost.0 c.if-not-waits.false cost.1) in
-    let here : node_at c.args.places.now c.args.v ≡ at.0 =
+    let here : node_in_list c.args.places.now c.args.v ≡ at.0 =
     place_of c.args.labels.now c.args.row.now c.args.list.now c.args.places.now c.args.count c.requires.queue c.args.v
     at.0 at.1 at.2 in
     omega (arith, here, at.1)

@@ -10,7 +10,7 @@ use Rattle.tn_cycle.specs.declared.kept.Sought.{Sought}
 use Rattle.tn_cycle.specs.declared.cell.Cell.{Cell}
 use Rattle.tn_cycle.specs.Answers.{AreNear, label_in}
 use Rattle.tn_cycle.specs.Cells.{cell_at}
-use Rattle.tn_cycle.specs.Kept.{AllArePast, AreReady, ComesFirst, IsPast, cell_by, every, flag_at, is_ready, label_by, node_at}
+use Rattle.tn_cycle.specs.Kept.{AllArePast, AreReady, ComesFirst, IsPast, cell_by, every, flag_at, is_ready, label_by, node_in_list}
 use Rattle.tn_cycle.specs.Queue.{AreQueued, IsBefore, IsHeap, IsQueue}
 use Rattle.tn_cycle.specs.Widths.{most_label}
 use Rattle.tn_cycle.proofs.CellLemmas.{led_room}
@@ -107,7 +107,7 @@ pub offer-count-requires-clause-labelled : goal.offer-count-requires-clause-labe
 offer-count-requires-clause-labelled g c v inside waiting =
     let nodes = g.C.Costs.node_count c.args.costs.now in
     let first = c.front_counts.ensures.yes c.if-not-front_counts.false in
-    let u = node_at c.loop-settled.list 0 in
+    let u = node_in_list c.loop-settled.list 0 in
     let own : u < nodes = (c.loop-settled.invariant.queued.listed.each 0 first.2.inside).0 in
     let within : u < length c.loop-settled.waits = omega (
       arith,
@@ -133,7 +133,7 @@ pub offer-count-requires-clause-queued : goal.offer-count-requires-clause-queued
 offer-count-requires-clause-queued g c =
     let nodes = g.C.Costs.node_count c.args.costs.now in
     let list = c.loop-settled.list in
-    let u = node_at list 0 in
+    let u = node_in_list list 0 in
     let rest = c.loop-settled.count - 1 in
     let cell = cell_at c.loop-settled.row in
     let waits = flag_at c.loop-settled.waits in
@@ -155,7 +155,7 @@ offer-count-requires-clause-queued g c =
     (λ v other. ap (λ (s : Bool). is_ready s (cell v)) (left c.loop-settled.waits u within v other)) in
     record {
       listed = same_waiting c.args.labels.now c.loop-settled.row c.take_front.new.list c.take_front.new.places rest
-          c.take_front.ensures.queue nodes (λ v. is_ready (now v) (cell v)) (set list 0 (node_at list rest)) taken
+          c.take_front.ensures.queue nodes (λ v. is_ready (now v) (cell v)) (set list 0 (node_in_list list rest)) taken
           c.take_front.ensures.same;
       queue = c.take_front.ensures.queue;
       heap = c.take_front.ensures.heap;
@@ -165,7 +165,7 @@ pub loop-settled-preserved : goal.loop-settled-preserved
 loop-settled-preserved g c =
     let nodes = g.C.Costs.node_count c.args.costs.now in
     let list = c.loop-settled.list in
-    let u = node_at list 0 in
+    let u = node_in_list list 0 in
     let label = label_in c.args.labels.now in
     let cell = cell_at c.loop-settled.row in
     let waits = flag_at c.loop-settled.waits in
@@ -240,7 +240,7 @@ ready_some false own is = absurd (false≢true is)
 
 pub front_counts-requires-clause-reached : goal.front_counts-requires-clause-reached
 front_counts-requires-clause-reached g c i inside =
-    let at = node_at c.loop-settled.list i in
+    let at = node_in_list c.loop-settled.list i in
     ready_some (flag_at c.loop-settled.waits at) (cell_at c.loop-settled.row at)
     (c.loop-settled.invariant.queued.listed.each i inside).1
 
@@ -251,7 +251,7 @@ list_waiting-count-requires-clause-sized g c =
 pub offer-count-requires-clause-counted : goal.offer-count-requires-clause-counted
 offer-count-requires-clause-counted g c =
     let known = c.loop-settled.invariant.known in
-    let u = node_at c.loop-settled.list 0 in
+    let u = node_in_list c.loop-settled.list 0 in
     let first = c.front_counts.ensures.yes c.if-not-front_counts.false in
     let own = (c.loop-settled.invariant.queued.listed.each 0 first.2.inside).0 in
     omega (arith, known.few u own, c.loop-settled.invariant.fewer, c.requires.few)
@@ -268,7 +268,7 @@ offer-count-requires-clause-settled g c =
 pub offer-count-requires-clause-shut : goal.offer-count-requires-clause-shut
 offer-count-requires-clause-shut g c =
     let first = c.front_counts.ensures.yes c.if-not-front_counts.false in
-    let u = node_at c.loop-settled.list 0 in
+    let u = node_in_list c.loop-settled.list 0 in
     let own = (c.loop-settled.invariant.queued.listed.each 0 first.2.inside).0 in
     let within : u < length c.loop-settled.waits = omega (
       arith,
@@ -291,7 +291,7 @@ offer-count-requires-clause-waits_sized g c =
       arith,
       c.requires.waits_sized,
       c.loop-settled.auto.waits,
-      length-set c.loop-settled.waits (node_at c.loop-settled.list 0) false,
+      length-set c.loop-settled.waits (node_in_list c.loop-settled.list 0) false,
     )
 
 pub overflow_sub-count : goal.overflow_sub-count
@@ -310,7 +310,7 @@ past_listed : (nodes count : ℕ) (base : ℤ) (sought : Sought) (label : ℕ �
     → AllArePast nodes base sought label cell own waits
 past_listed nodes count base sought label cell own waits list listed past v w inside waiting is =
     let at = listed.all v inside (ready (waits v) (cell v) w waiting is) in
-    subst (λ (z : ℕ). IsPast sought own ((w +ℤ label z) -ℤ base) (cell z).round) at.2
+    subst (λ (z : ℕ). IsPast sought own ((w +ℤ label z) -ℤ base) (cell z).inner_nodes) at.2
     (past at.0 w at.1 refl (ap (λ (z : ℕ). (cell z).cost) at.2 ∙ is))
 
 pub returns-then-not-front_counts : goal.returns-then-not-front_counts

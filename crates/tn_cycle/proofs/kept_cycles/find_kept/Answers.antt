@@ -186,13 +186,13 @@ read_cycle-found-requires-clause-listable g c =
       inside =
           All-weaker (λ u. (u < nodes) × (u ≢ c.args.node) × (flag_at c.search_kept.new.waits u ≡ false))
           (λ u. u < length row) (λ u h. omega (arith, h.0, places))
-          (trail (cell_at row) (cell_at row c.args.node).round c.args.node)
+          (trail (cell_at row) (cell_at row c.args.node).inner_nodes c.args.node)
           (stopped.known.passes c.args.node c.requires.inside);
     }
 
 -- a cycle that was read has few arcs
 read_few : (nodes node : ℕ) (cell : ℕ → Cell) (cap : Option ℤ) (listed : List ℕ) (found : Path)
-    → (cell node).round < nodes → IsCycleRead cell node cap listed found → arc_count found ≤ nodes
+    → (cell node).inner_nodes < nodes → IsCycleRead cell node cap listed found → arc_count found ≤ nodes
 read_few nodes node cell cap listed path.None few read = omega arith
 read_few nodes node cell cap listed (path.Cycle cost count) few read = omega (arith, few, read.3)
 

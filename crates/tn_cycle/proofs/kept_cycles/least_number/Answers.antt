@@ -6,13 +6,13 @@ use mir.Val.{SFits, of_z, to_z}
 use Rattle.tn_base.specs.Arcs.{ListsSuccessors}
 use Rattle.tn_base.specs.Widths.{most_cost}
 use Rattle.tn_cycle.specs.Answers.{label_in}
-use Rattle.tn_cycle.specs.Kept.{IsLiftedBy, signed}
+use Rattle.tn_cycle.specs.Kept.{IsLiftedBy, negated_if}
 use Rattle.tn_cycle.specs.Widths.{most_label}
 use Rattle.tn_cycle.proofs.KeptCycleLemmas.{lifted_all, lifted_near, lifted_next, signed_near}
 use Rattle.tn_cycle.proofs.kept_cycles.least_number.Goals as goal
 
-pub signed-label-requires : goal.signed-label-requires
-signed-label-requires g c =
+pub negated_if-label-requires : goal.negated_if-label-requires
+negated_if-label-requires g c =
     let v = c.successor-v.result in
     let inside = (g.met.C.Costs.lists_successors c.args.costs.now c.args.node c.requires.inside).inside c.loop-k.k
     (omega (arith, c.loop-k-test.true, c.successors-k-end.ensures)) in
@@ -28,8 +28,8 @@ lifted-least-requires-clause-label g c =
     (omega (arith, c.loop-k-test.true, c.successors-k-end.ensures)) in
     let near = c.requires.near v (omega (arith, inside, c.successor-v.ensures, c.requires.labels_sized)) in
     let fits : SFits w128 (label v) = omega (arith, ints, near.low, near.high) in
-    let result_fits : SFits w128 c.signed-label.result = search rules in
-    let is = simp to_z-of_z at c.signed-label.ensures in
+    let result_fits : SFits w128 c.negated_if-label.result = search rules in
+    let is = simp to_z-of_z at c.negated_if-label.ensures in
     let small = signed_near c.args.negates (label v) most_label near in
     simp to_z-of_z (record { low = omega (arith, ints, is, small.low); high = omega (arith, ints, is, small.high) })
 
@@ -51,14 +51,14 @@ loop-k-preserved g c =
     let places : v < length c.args.labels.now = omega (arith, inside, v_is, c.requires.labels_sized) in
     let near = c.requires.near v places in
     let fits : SFits w128 (label v) = omega (arith, ints, near.low, near.high) in
-    let own_fits : SFits w128 c.signed-label.result = search rules in
-    let number = λ (u : ℕ). signed c.args.negates (label u) in
-    let is : to_z w128 (of_z w128 c.signed-label.result) ≡ number v =
-    to_z-of_z w128 c.signed-label.result own_fits ∙ c.signed-label.ensures
-    ∙ ap (signed c.args.negates) (to_z-of_z w128 (label v) fits) in
+    let own_fits : SFits w128 c.negated_if-label.result = search rules in
+    let number = λ (u : ℕ). negated_if c.args.negates (label u) in
+    let is : to_z w128 (of_z w128 c.negated_if-label.result) ≡ number v =
+    to_z-of_z w128 c.negated_if-label.result own_fits ∙ c.negated_if-label.ensures
+    ∙ ap (negated_if c.args.negates) (to_z-of_z w128 (label v) fits) in
     let others : v ≢ c.args.node → IsLiftedBy c.loop-k.least (number v) (arc c.args.node v) c.lifted-least.result =
     λ off. subst (λ (z : ℤ). IsLiftedBy c.loop-k.least z (arc c.args.node v) c.lifted-least.result) is
-    (subst (λ (o : Option ℤ). IsLiftedBy c.loop-k.least (to_z w128 (of_z w128 c.signed-label.result)) o
+    (subst (λ (o : Option ℤ). IsLiftedBy c.loop-k.least (to_z w128 (of_z w128 c.negated_if-label.result)) o
     c.lifted-least.result) c.cost.ensures (c.lifted-least.ensures.others off)) in
     record {
       keeps = lifted_next arc c.args.node number at k c.loop-k.least c.lifted-least.result c.loop-k.invariant.keeps
@@ -82,6 +82,6 @@ returns-clause-keeps g c =
       c.loop-k.auto.k-end,
       c.successors-k-end.ensures,
     ) in
-    lifted_all nodes arc c.args.node (λ u. signed c.args.negates (label_in c.args.labels.now u)) at c.loop-k.k
+    lifted_all nodes arc c.args.node (λ u. negated_if c.args.negates (label_in c.args.labels.now u)) at c.loop-k.k
     c.loop-k.least (subst (λ (n : ℕ). ListsSuccessors nodes arc c.args.node n at) all
     (g.met.C.Costs.lists_successors c.args.costs.now c.args.node c.requires.inside)) c.loop-k.invariant.keeps

@@ -10,8 +10,8 @@ use Rattle.tn_cycle.specs.Widths.{most_label}
 use Rattle.tn_cycle.proofs.KeptCycleLemmas.{signed_near, unwrap_near}
 use Rattle.tn_cycle.proofs.kept_cycles.node_label.Goals as goal
 
-pub signed-requires : goal.signed-requires
-signed-requires g c =
+pub negated_if-requires : goal.negated_if-requires
+negated_if-requires g c =
     let fits : SFits w128 c.unwrap_or.result = search rules in
     let near = unwrap_near c.least_number-in-None.result (most_label + most_cost)
     (c.least_number-in-None.ensures.near most_label c.requires.near) in
@@ -31,12 +31,12 @@ returns-in-Some-clause-keeps g c v cost off is =
 pub returns-in-None-clause-near : goal.returns-in-None-clause-near
 returns-in-None-clause-near g c reach all =
     let fits : SFits w128 c.unwrap_or.result = search rules in
-    let signed_fits : SFits w128 c.signed.result = search rules in
+    let signed_fits : SFits w128 c.negated_if.result = search rules in
     let near = unwrap_near c.least_number-in-None.result (reach + most_cost)
     (c.least_number-in-None.ensures.near reach all) in
     let own : IsAtMost c.unwrap_or.result (reach + most_cost) =
     subst (λ (z : ℤ). IsAtMost z (reach + most_cost)) (sym c.unwrap_or.ensures) near in
-    let is = simp to_z-of_z at c.signed.ensures in
+    let is = simp to_z-of_z at c.negated_if.ensures in
     simp to_z-of_z (subst (λ (z : ℤ). IsAtMost z (reach + most_cost)) (sym is)
     (signed_near true c.unwrap_or.result (reach + most_cost) own))
 

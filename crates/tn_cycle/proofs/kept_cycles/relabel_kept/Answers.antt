@@ -4,7 +4,7 @@ use Rattle.std.proofs.lemmas.Int.{to_z-of_z}
 use Rattle.std.proofs.lemmas.List.{get_or-set_other, get_or-set_same, get_or_past, length-set}
 use mir.Syntax.{w128}
 use mir.Val.{SFits}
-use Rattle.tn_cycle.specs.Answers.{IsLowest, label_in}
+use Rattle.tn_cycle.specs.Answers.{IsLowestCost, label_in}
 use Rattle.tn_cycle.specs.Cells.{cell_at}
 use Rattle.tn_cycle.specs.Graphs.{with_sink}
 use Rattle.tn_cycle.specs.Kept.{flag_at}
@@ -24,8 +24,8 @@ write_labels-requires-clause-lowest g c =
     between c.nodes-sink.ensures c.requires.keeps c.search_kept.ensures in
     let sunk = sunk_at nodes c.nodes-sink.result arc cell (g.met.C.Costs.small c.args.costs.now) c.requires.few
     c.nodes-sink.ensures settled in
-    let least : IsLowest nodes cell c.lowest_cost.result =
-    subst (λ (k : ℕ). IsLowest k cell c.lowest_cost.result) c.nodes-sink.ensures c.lowest_cost.ensures in
+    let least : IsLowestCost nodes cell c.lowest_cost.result =
+    subst (λ (k : ℕ). IsLowestCost k cell c.lowest_cost.result) c.nodes-sink.ensures c.lowest_cost.ensures in
     let fits : SFits w128 c.lowest_cost.result = search rules in
     simp to_z-of_z (lowest_small nodes arc cell between sunk.0 c.lowest_cost.result sunk.1 least)
 
@@ -52,8 +52,8 @@ returns g c =
     between c.nodes-sink.ensures c.requires.keeps c.search_kept.ensures in
     let sunk = sunk_at nodes c.nodes-sink.result arc cell (g.met.C.Costs.small c.args.costs.now) c.requires.few
     c.nodes-sink.ensures settled in
-    let least : IsLowest nodes cell c.lowest_cost.result =
-    subst (λ (k : ℕ). IsLowest k cell c.lowest_cost.result) c.nodes-sink.ensures c.lowest_cost.ensures in
+    let least : IsLowestCost nodes cell c.lowest_cost.result =
+    subst (λ (k : ℕ). IsLowestCost k cell c.lowest_cost.result) c.nodes-sink.ensures c.lowest_cost.ensures in
     let fits : SFits w128 c.lowest_cost.result = search rules in
     let are = simp to_z-of_z at c.write_labels.ensures in
     are_labels nodes arc cell between sunk.0 c.lowest_cost.result c.write_labels.new.labels least

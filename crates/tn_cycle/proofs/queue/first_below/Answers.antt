@@ -3,7 +3,7 @@ use Rattle.std.proofs.Common.{◌≡◌, ◌+◌, ◌*◌, ℕ, subst, arith, in
 use Rattle.std.proofs.lemmas.Option.{same_Some}
 use Rattle.tn_cycle.specs.Answers.{label_in}
 use Rattle.tn_cycle.specs.Cells.{cell_at}
-use Rattle.tn_cycle.specs.Kept.{node_at}
+use Rattle.tn_cycle.specs.Kept.{node_in_list}
 use Rattle.tn_cycle.specs.Queue.{IsBefore, IsFirstBelow}
 use Rattle.tn_cycle.proofs.QueueLemmas.{before_itself}
 use Rattle.tn_cycle.proofs.queue.first_below.Goals.{else-right-count-via-then-right-count+else-not-is_before, else-right-count-via-else-right-count}
@@ -15,9 +15,9 @@ returns-then-left-count-clause-some c below is =
     let cell = cell_at c.args.row.now in
     let left : 2 * c.args.at + 1 ≡ below = same_Some (2 * c.args.at + 1) below is in
     let itself : (i : ℕ) → i ≡ 2 * c.args.at + 1
-    → IsBefore label cell (node_at c.args.list.now (2 * c.args.at + 1)) (node_at c.args.list.now i) =
-    λ i same. subst (λ (z : ℕ). IsBefore label cell (node_at c.args.list.now z) (node_at c.args.list.now i)) same
-    (before_itself label cell (node_at c.args.list.now i)) in
+    → IsBefore label cell (node_in_list c.args.list.now (2 * c.args.at + 1)) (node_in_list c.args.list.now i) =
+    λ i same. subst (λ (z : ℕ). IsBefore label cell (node_in_list c.args.list.now z) (node_in_list c.args.list.now i)) same
+    (before_itself label cell (node_in_list c.args.list.now i)) in
     subst (IsFirstBelow (IsBefore label cell) c.args.list.now c.args.count c.args.at) left (record {
       is = inl (omega arith);
       inside = omega (arith, c.if-left-count.true);
@@ -26,8 +26,8 @@ returns-then-left-count-clause-some c below is =
         | inr other ↦ elim c.else-right-count.branch [
           | else-right-count-via-then-right-count+else-not-is_before w ↦
               let right : 2 * c.args.at + 1 + 1 ≡ i = omega (arith, other) in
-              subst (λ (z : ℕ). IsBefore label cell (node_at c.args.list.now (2 * c.args.at + 1))
-              (node_at c.args.list.now z)) right (w.is_before.ensures.yes w.if-not-is_before.false)
+              subst (λ (z : ℕ). IsBefore label cell (node_in_list c.args.list.now (2 * c.args.at + 1))
+              (node_in_list c.args.list.now z)) right (w.is_before.ensures.yes w.if-not-is_before.false)
           | else-right-count-via-else-right-count w ↦ absurd (omega (arith, other, inside, w.if-right-count.false))
         ]
       ];

@@ -2,7 +2,7 @@
 use Rattle.std.proofs.Common.{◌+◌, ◌<◌, ℕ, List, set, refl, sym, subst, arith}
 use Rattle.tn_cycle.specs.Answers.{label_in}
 use Rattle.tn_cycle.specs.Cells.{cell_at}
-use Rattle.tn_cycle.specs.Kept.{node_at}
+use Rattle.tn_cycle.specs.Kept.{node_in_list}
 use Rattle.tn_cycle.specs.Queue.{HaveSameNodes, IsBefore, IsHeapAbove, IsQueue}
 use Rattle.tn_cycle.proofs.HeapLemmas.{take_heap}
 use Rattle.tn_cycle.proofs.QueueLemmas.{before-trans, carry, take_queue}
@@ -20,8 +20,8 @@ sink-requires-clause-queue c =
     let list = c.args.list.now in
     let places = c.args.places.now in
     let left = c.args.left in
-    carry (IsQueue labels row) c.put.new.list (set list 0 (node_at list left)) c.put.new.places
-    (set places (node_at list left) 0) left left c.put.ensures.list c.put.ensures.places refl
+    carry (IsQueue labels row) c.put.new.list (set list 0 (node_in_list list left)) c.put.new.places
+    (set places (node_in_list list left) 0) left left c.put.ensures.list c.put.ensures.places refl
     (take_queue labels row list places (left + 1) c.requires.queue left refl c.requires.spaced)
 
 pub sink-requires-clause-heap : goal.sink-requires-clause-heap

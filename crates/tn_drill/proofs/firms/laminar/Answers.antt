@@ -4,7 +4,7 @@ use Rattle.std.specs.Prelude.{IsSome}
 use Rattle.std.proofs.lemmas.Int.{to_z-of_z}
 use mir.Syntax.{w32}
 use mir.Val.{SFits, to_z, of_z}
-use Rattle.tn_law.specs.Nested.{IsConcaveList, listed_from}
+use Rattle.tn_firm_laws.specs.Nested.{IsConcaveList, listed_from}
 use Rattle.tn_laminar.specs.declared.set.LaminarSet.{LaminarSet}
 use Rattle.tn_laminar.specs.Faults.{IsRefusedFor}
 use Rattle.tn_drill.proofs.FirmLemmas.{one_set_sound}

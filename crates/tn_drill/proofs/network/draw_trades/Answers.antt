@@ -1,6 +1,6 @@
 -- What shows the clauses of `draw_trades` of `src/network.rt`.
 use Rattle.std.proofs.Common.{◌≡◌, ◌+◌, ◌*◌, ◌∷◌, [], ◌++◌, ap, ap₂, ◌∙◌, sym, arith, subst, List, length}
-use Rattle.tn_plain_data.specs.declared.ends.Ends.{Ends}
+use Rattle.tn_model.specs.declared.ends.Ends.{Ends}
 use Rattle.tn_drill.specs.declared.draws.Drawn.{Drawn}
 use Rattle.tn_drill.specs.Draws.{IsWithin, state_after}
 use Rattle.tn_drill.specs.Drill.{ends_after}

@@ -2,11 +2,11 @@
 use Rattle.std.proofs.Common.{ap, ◌∙◌, sym, subst, arith, List, length}
 use Rattle.std.specs.Prelude.{All}
 use Rattle.tn_base.specs.Firm.{Firm}
-use Rattle.tn_plain_data.specs.declared.ends.Ends.{Ends}
-use Rattle.tn_plain_data.specs.Network.{IsNetwork}
+use Rattle.tn_model.specs.declared.ends.Ends.{Ends}
+use Rattle.tn_model.specs.Network.{IsNetwork}
 use Rattle.tn_drill.specs.declared.draws.Drawn.{Drawn}
 use Rattle.tn_drill.specs.Draws.{IsWithin}
-use Rattle.tn_drill.specs.Drill.{AreOwn, firms_of, trades_of}
+use Rattle.tn_drill.specs.Drill.{HasSmallNumbers, drawn_ends, firms_of}
 use Rattle.tn_drill.proofs.DrawLemmas.{draws_within, trades_counted}
 use Rattle.tn_drill.proofs.NetworkLemmas.{firms_are, drill_network, own_of}
 use Rattle.tn_drill.proofs.network.drill.Goals as goal
@@ -19,9 +19,9 @@ firms-requires-clause-within c =
 pub firms-requires-clause-own : goal.firms-requires-clause-own
 firms-requires-clause-own c =
     λ f below.
-    subst (λ (trades : List Ends). AreOwn trades c.deref-2.result.now f)
+    subst (λ (trades : List Ends). HasSmallNumbers trades c.deref-2.result.now f)
     (sym (c.deref.ensures.value ∙ c.in_ok-draft.ensures.trades))
-    (subst (λ (draws : List Drawn). AreOwn (trades_of c.args.start c.args.size) draws f)
+    (subst (λ (draws : List Drawn). HasSmallNumbers (drawn_ends c.args.start c.args.size) draws f)
     (sym (c.deref-2.ensures.value ∙ c.in_ok-draft.ensures.draws))
     (own_of c.args.start c.args.size f c.requires.few below))
 

@@ -3,7 +3,7 @@ use Rattle.std.proofs.Common.{◌≡◌, ◌∙◌, map, length, arith}
 use Rattle.std.proofs.lemmas.List.{length-map}
 use Rattle.serde_json.specs.View.{view, items_view}
 use Rattle.serde_json.specs.Events.{items_len}
-use Rattle.tn_shape.proofs.ShapeLemmas.{items_len_is}
+use Rattle.tn_read_shapes.proofs.ShapeLemmas.{items_len_is}
 use Rattle.tn_read_firms.proofs.FirmLeads.{firms_are_counted}
 use Rattle.tn_file.specs.Extra.{extra_view}
 use Rattle.tn_file.proofs.DocumentLeads.{accepted_as_tested}

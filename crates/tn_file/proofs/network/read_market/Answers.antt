@@ -4,11 +4,11 @@ use Rattle.std.proofs.lemmas.List.{length-map}
 use Rattle.serde_json.specs.View.{items_view}
 use Rattle.serde_json.specs.Events.{items_len}
 use Rattle.tn_firm.specs.Firms.{firm_of}
-use Rattle.tn_plain_data.specs.Network.{IsNetwork}
-use Rattle.tn_plain_data.specs.declared.ends.Ends.{Ends}
-use Rattle.tn_shape.specs.Reading.{each}
+use Rattle.tn_model.specs.Network.{IsNetwork}
+use Rattle.tn_model.specs.declared.ends.Ends.{Ends}
+use Rattle.tn_read_shapes.specs.Reading.{each}
 use Rattle.tn_read_firms.specs.Firms.{one_firm}
-use Rattle.tn_shape.proofs.ShapeLemmas.{items_len_is}
+use Rattle.tn_read_shapes.proofs.ShapeLemmas.{items_len_is}
 use Rattle.tn_read_firms.proofs.FirmLeads.{network_from_reading, firms_are_counted}
 use Rattle.tn_file.proofs.network.read_market.Goals as goal
 

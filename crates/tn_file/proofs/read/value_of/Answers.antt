@@ -1,9 +1,9 @@
 -- What shows the clauses of `value_of` of `src/read.rt`.
 use Rattle.std.proofs.Common.{ap, ◌∙◌, [], sym}
 use Rattle.std.proofs.lemmas.Bool.{false≢true}
-use Rattle.tn_base.specs.declared.fault.FaultKind.TheVariants.{NotJson}
+use Rattle.tn_said.specs.declared.fault.FaultKind.TheVariants.{NotJson}
 use Rattle.tn_file.specs.Json.{json_of}
-use Rattle.tn_shape.specs.Reading.{wanted}
+use Rattle.tn_read_shapes.specs.Reading.{wanted}
 use Rattle.tn_file.proofs.JsonLemmas.{json_of-text, json_of-none, wanted-fails}
 use Rattle.tn_file.proofs.read.value_of.Goals as goal
 

@@ -1,6 +1,6 @@
 -- What shows the clauses of `know` of `src/rounds.rt`.
 use Rattle.tn_flow.proofs.RoundLemmas.{kept_start}
-use Rattle.tn_network.proofs.EachLemmas.{meet_all}
+use Rattle.tn_network_laws.proofs.EachLemmas.{meet_all}
 use Rattle.tn_flow.proofs.rounds.know.Goals as goal
 
 pub returns-clause-meet : goal.returns-clause-meet

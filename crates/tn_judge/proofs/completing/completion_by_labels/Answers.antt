@@ -6,7 +6,7 @@ use mir.Val.{SFits}
 use Rattle.tn_graph.specs.Blocks.{arcs_of}
 use Rattle.tn_cycle.specs.Answers.{AreLabels, IsNegative}
 use Rattle.tn_market.specs.Signed.{signed}
-use Rattle.tn_outcome.proofs.SignedLemmas.{signed_within}
+use Rattle.tn_outcome_laws.proofs.SignedLemmas.{signed_within}
 use Rattle.tn_residual.proofs.MakingLemmas.{outcome_feasible}
 use Rattle.tn_judge.specs.Fixing.{raised_fixed, ArePriced, CanBeFixed}
 use Rattle.tn_judge.proofs.CompletionLemmas.{possible_outcome, can_be_fixed, labels_small, labels_complete, cycle_incomplete}

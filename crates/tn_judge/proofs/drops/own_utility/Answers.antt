@@ -6,7 +6,7 @@ use mir.Syntax.{w128}
 use mir.Val.{SFits}
 use Rattle.tn_base.specs.Firm.{utility}
 use Rattle.tn_base.proofs.SetLemmas.{set_of_within}
-use Rattle.tn_plain_data.specs.Prices.{price_at}
+use Rattle.tn_model.specs.Prices.{price_at}
 use Rattle.tn_market.specs.Signed.{contract_utility, signed_bundle}
 use Rattle.tn_residual.proofs.HeldLemmas.{held_utility}
 use Rattle.tn_judge.proofs.drops.own_utility.Goals as goal

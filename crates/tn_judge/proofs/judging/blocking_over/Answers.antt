@@ -6,7 +6,7 @@ use mir.Val.{SFits}
 use Rattle.tn_base.specs.Arcs.{IsAtMost}
 use Rattle.tn_chain.specs.Search.{chain_scale}
 use Rattle.tn_chain.specs.Limits.{most_judged_trades}
-use Rattle.tn_plain_data.specs.Limits.{most_over}
+use Rattle.tn_model.specs.Limits.{most_over}
 use Rattle.tn_chain.proofs.SizeLemmas.{scale_bound}
 use Rattle.tn_judge.proofs.judging.blocking_over.Goals as goal
 

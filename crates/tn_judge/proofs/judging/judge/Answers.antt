@@ -1,7 +1,7 @@
 -- What shows the clauses of `judge` of `src/judging.rt`.
 use Rattle.std.proofs.Common.{map, subst}
-use Rattle.tn_plain_data.specs.Prices.{price_at}
-use Rattle.tn_outcome.proofs.FixedLemmas.{completed_is_rational}
+use Rattle.tn_model.specs.Prices.{price_at}
+use Rattle.tn_outcome_laws.proofs.FixedLemmas.{completed_is_rational}
 use Rattle.tn_residual.proofs.MakingLemmas.{outcome_feasible}
 use Rattle.tn_judge.specs.Completion.{AnswersCompletion}
 use Rattle.tn_judge.proofs.judging.judge.Goals as goal

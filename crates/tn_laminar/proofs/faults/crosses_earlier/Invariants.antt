@@ -1,7 +1,7 @@
 -- What the loops of `crosses_earlier` of `src/faults.rt` keep.
 use Rattle.std.proofs.Common.{ℕ, ◌<◌, ◌≡◌}
 use Rattle.std.specs.Prelude.{slice_get, Some}
-use Rattle.tn_law.specs.Nested.{Cross}
+use Rattle.tn_firm_laws.specs.Nested.{Cross}
 use Rattle.tn_laminar.specs.declared.set.LaminarSet.{LaminarSet}
 use Rattle.tn_laminar.proofs.faults.crosses_earlier.Given as goal
 

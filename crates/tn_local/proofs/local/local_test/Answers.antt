@@ -4,8 +4,8 @@ use Rattle.tn_exchange.specs.Rows.{firm_of_table}
 use Rattle.tn_exchange.specs.Verdicts.{IfFails, IsVerdictOn}
 use Rattle.tn_exchange.proofs.RowLemmas.{own_bundles}
 use Rattle.tn_base.specs.Table.{buys_of}
-use Rattle.tn_law.specs.Close.{AreClose}
-use Rattle.tn_law.proofs.QuadLemmas.{none_fails_from_quads}
+use Rattle.tn_firm_laws.specs.Close.{AreClose}
+use Rattle.tn_firm_laws.proofs.QuadLemmas.{none_fails_from_quads}
 use Rattle.tn_local.specs.First.{IsFirstCloseFailure}
 use Rattle.tn_local.proofs.VerdictLemmas.{first_close, no_more_close, none_above_close, none_fails_close, close_not_none}
 use Rattle.tn_local.proofs.local.local_test.Goals as goal

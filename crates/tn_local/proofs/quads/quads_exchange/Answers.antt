@@ -1,7 +1,7 @@
 -- What shows the clauses of `quads_exchange` of `src/quads.rt`.
 use Rattle.std.proofs.Common.{ℕ, refl, sym, ◌∙◌, subst, arith, inl, inr}
 use Rattle.std.proofs.lemmas.Bool.{cases_eq, false≢true}
-use Rattle.tn_law.specs.Quads.{QuadsExchangeAt}
+use Rattle.tn_firm_laws.specs.Quads.{QuadsExchangeAt}
 use Rattle.tn_exchange.specs.Rows.{firm_of_table}
 use Rattle.tn_local.proofs.quads.quads_exchange.Goals as goal
 

@@ -3,7 +3,7 @@ use Rattle.std.proofs.Common.{◌≡◌, ℕ, ap, ◌∙◌, rules, SFits, arith
 use Rattle.std.specs.Int.{w128}
 use Rattle.std.proofs.lemmas.Int.{to_z-of_z, ints}
 use Rattle.tn_base.specs.Sets.{toggle}
-use Rattle.tn_law.specs.Quads.{value}
+use Rattle.tn_firm_laws.specs.Quads.{value}
 use Rattle.tn_exchange.specs.Rows.{firm_of_table}
 use Rattle.tn_local.proofs.QuadLemmas.{same_sums}
 use Rattle.tn_local.proofs.quads.three_exchange.Goals as goal

@@ -1,6 +1,6 @@
 -- What shows the clauses of `further` of `src/walk.rt`.
 use Rattle.std.proofs.Common.{◌≡◌, ℕ, suc, ◌+◌, sym, ◌∙◌, subst, arith, true, false}
-use Rattle.tn_law.specs.Places.{trade_level}
+use Rattle.tn_firm_laws.specs.Places.{trade_level}
 use Rattle.tn_local.specs.Walk.{IsReached}
 use Rattle.tn_local.proofs.WalkLemmas.{known_up_some, known_up_none, known_down_some, known_down_none, level_if}
 use Rattle.tn_local.proofs.walk.further.Goals as goal

@@ -1,6 +1,6 @@
 -- What shows the clauses of `moved` of `src/walk.rt`.
 use Rattle.std.proofs.Common.{ℕ, ◌^◌, ◌<◌, sym, ap, ◌∙◌, subst}
-use Rattle.tn_law.specs.Places.{move, toggle_at}
+use Rattle.tn_firm_laws.specs.Places.{move, toggle_at}
 use Rattle.tn_local.proofs.WalkLemmas.{toggle_at-own}
 use Rattle.tn_local.proofs.walk.moved.Goals as goal
 

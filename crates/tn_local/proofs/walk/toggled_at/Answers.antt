@@ -1,6 +1,6 @@
 -- What shows the clauses of `toggled_at` of `src/walk.rt`.
 use Rattle.std.proofs.Common.{sym, ◌∙◌, arith}
-use Rattle.tn_law.proofs.PlaceLemmas.{toggle_at-trade, toggle_at-null}
+use Rattle.tn_firm_laws.proofs.PlaceLemmas.{toggle_at-trade, toggle_at-null}
 use Rattle.tn_local.proofs.walk.toggled_at.Goals as goal
 
 pub returns-then-k-null : goal.returns-then-k-null

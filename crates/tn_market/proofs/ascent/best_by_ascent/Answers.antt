@@ -8,7 +8,7 @@ use Rattle.tn_base.specs.Firm.{IsBest, utility}
 use Rattle.tn_base.specs.Sets.{union}
 use Rattle.tn_base.proofs.SizeLemmas.{size_at}
 use Rattle.tn_market.specs.Best.{IsBestBetween}
-use Rattle.tn_plain_data.specs.Prices.{price_at}
+use Rattle.tn_model.specs.Prices.{price_at}
 use Rattle.tn_market.specs.Ascent.{aimed}
 use Rattle.tn_market.specs.Widths.{most_aimed}
 use Rattle.tn_market.proofs.AscentLemmas.{emptied, not_emptied}

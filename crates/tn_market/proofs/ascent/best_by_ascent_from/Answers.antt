@@ -5,7 +5,7 @@ use mir.Syntax.{w128}
 use mir.Val.{SFits}
 use Rattle.tn_base.specs.Arcs.{IsAtMost}
 use Rattle.tn_base.specs.Firm.{IsBest, utility}
-use Rattle.tn_plain_data.specs.Prices.{price_at}
+use Rattle.tn_model.specs.Prices.{price_at}
 use Rattle.tn_market.specs.Best.{IsBestBetween}
 use Rattle.tn_market.specs.Ascent.{aimed, StaysAt}
 use Rattle.tn_market.proofs.BonusLemmas.{IsQuestion, beside_none, plain_best, best_plain, plain_small}

@@ -6,7 +6,7 @@ use mir.Syntax.{w128}
 use mir.Val.{SFits}
 use Rattle.tn_base.specs.Arcs.{IsAtMost}
 use Rattle.tn_base.specs.declared.side.Side.{Side}
-use Rattle.tn_plain_data.specs.Prices.{price_at}
+use Rattle.tn_model.specs.Prices.{price_at}
 use Rattle.tn_market.specs.Ascent.{payment_of}
 use Rattle.tn_market.proofs.BonusLemmas.{none_listed, one_listed}
 use Rattle.tn_market.proofs.ascent.gains.Goals as goal

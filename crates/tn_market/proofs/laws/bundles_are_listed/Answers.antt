@@ -1,5 +1,5 @@
 -- What shows the clauses of `bundles_are_listed` of `src/laws.rt`.
-use Rattle.tn_plain_data.proofs.NetworkLemmas.{listed_trades, ascending_trades}
+use Rattle.tn_model.proofs.NetworkLemmas.{listed_trades, ascending_trades}
 use Rattle.tn_market.proofs.laws.bundles_are_listed.Goals as goal
 
 pub returns : goal.returns

@@ -1,8 +1,8 @@
 -- What shows the clauses of `trades_in` of `src/bundle.rt`.
 use Rattle.std.proofs.Common.{◌≡◌, ℕ, ◌+◌, List, [], ◌∷◌, ◌++◌, Bool, true, false, if◌then◌else◌, ap, ◌∙◌, add-one, append-nil, arith, sym}
 use Rattle.tn_base.specs.Sets.{has}
-use Rattle.tn_plain_data.specs.declared.ends.Ends.{Ends}
-use Rattle.tn_plain_data.specs.Network.{own, trades_of}
+use Rattle.tn_model.specs.declared.ends.Ends.{Ends}
+use Rattle.tn_model.specs.Network.{own, trades_of}
 use Rattle.tn_price.proofs.bundle.trades_in.Goals as goal
 use Rattle.tn_price.proofs.bundle.trades_in.Goals.{then-has+in_ok-push, else-has}
 

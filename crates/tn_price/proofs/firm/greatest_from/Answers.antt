@@ -5,7 +5,7 @@ use mir.Syntax.{w128}
 use mir.Val.{SFits}
 use Rattle.tn_base.specs.Sets.{set_of}
 use Rattle.tn_base.specs.Firm.{utility}
-use Rattle.tn_plain_data.specs.Prices.{price_at}
+use Rattle.tn_model.specs.Prices.{price_at}
 use Rattle.tn_market.specs.BestFrom.{IsBestFrom}
 use Rattle.tn_market.proofs.AskLemmas.{all_within, greatest_is_best, best_is_greatest}
 use Rattle.tn_price.proofs.firm.greatest_from.Goals as goal

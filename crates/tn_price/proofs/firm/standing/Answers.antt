@@ -7,7 +7,7 @@ use mir.Syntax.{w128}
 use mir.Val.{SFits}
 use Rattle.tn_base.specs.Arcs.{IsAtMost}
 use Rattle.tn_base.specs.Firm.{utility, IsBest}
-use Rattle.tn_plain_data.specs.Prices.{price_at}
+use Rattle.tn_model.specs.Prices.{price_at}
 use Rattle.tn_market.specs.Widths.{most_utility, most_worth}
 use Rattle.tn_market.proofs.AscentLemmas.{smaller}
 use Rattle.tn_market.proofs.AskLemmas.{as_is}

@@ -1,6 +1,6 @@
 -- What the loops of `judge_at` of `src/judge.rt` keep.
 use Rattle.std.proofs.Common.{map}
-use Rattle.tn_plain_data.specs.Prices.{price_at}
+use Rattle.tn_model.specs.Prices.{price_at}
 use Rattle.tn_price.proofs.JudgeLemmas.{AreJudged}
 use Rattle.tn_price.proofs.judge.judge_at.Given as goal
 

@@ -4,8 +4,8 @@ use Rattle.std.proofs.lemmas.Int.{ints}
 use Rattle.std.proofs.lemmas.List.Elements.{All-replicate}
 use Rattle.std.proofs.Math.ListN.{set}
 use Rattle.tn_base.specs.Arcs.{IsAtMost}
-use Rattle.tn_plain_data.specs.Prices.{price_at}
-use Rattle.tn_plain_data.specs.Limits.{most_number}
+use Rattle.tn_model.specs.Prices.{price_at}
+use Rattle.tn_model.specs.Limits.{most_number}
 use Rattle.tn_market.specs.Widths.{most_own}
 use Rattle.tn_price.specs.Standings.{AreOwnPrices}
 use Rattle.tn_market.proofs.AskLemmas.{as_is}

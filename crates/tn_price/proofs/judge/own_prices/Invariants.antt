@@ -1,5 +1,5 @@
 -- What the loops of `own_prices` of `src/judge.rt` keep.
-use Rattle.tn_plain_data.specs.Prices.{price_at}
+use Rattle.tn_model.specs.Prices.{price_at}
 use Rattle.tn_price.specs.Standings.{AreOwnPrices}
 use Rattle.tn_price.proofs.judge.own_prices.Given as goal
 

@@ -4,7 +4,7 @@ use Rattle.std.proofs.lemmas.Int.{to_z-of_z}
 use mir.Syntax.{w128}
 use mir.Val.{SFits}
 use Rattle.tn_base.specs.Firm.{utility}
-use Rattle.tn_plain_data.specs.Prices.{price_at}
+use Rattle.tn_model.specs.Prices.{price_at}
 use Rattle.tn_price.specs.Standings.{Stands}
 use Rattle.tn_price.proofs.JudgeLemmas.{stands_there, part_within}
 use Rattle.tn_price.proofs.judge.standing_of.Goals as goal

@@ -2,7 +2,7 @@
 use Rattle.std.proofs.Common.{◌≡◌, ℕ, ◌+◌, ◌≤◌, ◌<◌, map, slice_get, Some}
 use Rattle.std.specs.Prelude.{IsSome}
 use Rattle.tn_base.specs.Firm.{Firm}
-use Rattle.tn_plain_data.specs.Network.{part}
+use Rattle.tn_model.specs.Network.{part}
 use Rattle.tn_price.proofs.supporting.first_unable.Given as goal
 
 abbrev pub invariant-loop-f : goal.invariant-loop-f

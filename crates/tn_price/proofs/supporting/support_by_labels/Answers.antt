@@ -6,7 +6,7 @@ use mir.Val.{SFits}
 use Rattle.tn_market.specs.Supported.{IsNegativeCycle, said_node}
 use Rattle.tn_cycle.specs.Widths.{most_graph_nodes}
 use Rattle.tn_market.specs.Widths.{most_market_trades}
-use Rattle.tn_network.proofs.EachLemmas.{meet_all}
+use Rattle.tn_network_laws.proofs.EachLemmas.{meet_all}
 use Rattle.tn_price.proofs.SupportLemmas.{exchange_labels, exchange_small, read, labels_support, priced_within, exchange_cycle, cycle_unsupported}
 use Rattle.tn_price.proofs.supporting.support_by_labels.Goals as goal
 

@@ -6,7 +6,7 @@ use Rattle.tn_base.specs.Arcs.{IsAtMost}
 use Rattle.tn_market.specs.Widths.{most_limit}
 use Rattle.tn_base.specs.Firm.{Firm}
 use Rattle.tn_market.proofs.AscentLemmas.{smaller}
-use Rattle.tn_plain_data.specs.Network.{part}
+use Rattle.tn_model.specs.Network.{part}
 use Rattle.tn_price.proofs.JudgeLemmas.{firm_is, part_within}
 use Rattle.tn_price.proofs.surplus.worth_at.Goals as goal
 

@@ -7,8 +7,8 @@ use mir.Syntax.{w128}
 use mir.Val.{SFits}
 use Rattle.tn_cycle.specs.Answers.{label_in}
 use Rattle.tn_cycle.specs.Reading.{Reading}
-use Rattle.tn_network.specs.Laws.{price_of_node}
-use Rattle.tn_plain_data.specs.Prices.{price_at}
+use Rattle.tn_network_laws.specs.Laws.{price_of_node}
+use Rattle.tn_model.specs.Prices.{price_at}
 use Rattle.tn_range.proofs.RangeLemmas.{next_price}
 use Rattle.tn_range.proofs.ranges.label_by_prices.Goals as goal
 

@@ -2,8 +2,8 @@
 use Rattle.std.proofs.Common.{◌≡◌, ℕ, ◌+◌, length}
 use Rattle.tn_cycle.specs.Answers.{label_in}
 use Rattle.tn_cycle.specs.Reading.{ListsNoWalks}
-use Rattle.tn_network.specs.Laws.{price_of_node}
-use Rattle.tn_plain_data.specs.Prices.{price_at}
+use Rattle.tn_network_laws.specs.Laws.{price_of_node}
+use Rattle.tn_model.specs.Prices.{price_at}
 use Rattle.tn_range.proofs.ranges.label_by_prices.Given as goal
 
 abbrev pub invariant-loop-t : goal.invariant-loop-t

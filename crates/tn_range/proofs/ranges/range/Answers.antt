@@ -5,9 +5,9 @@ use Rattle.tn_base.specs.Walks.{KeepsArcs}
 use Rattle.tn_cycle.specs.Answers.{AreNear, label_in}
 use Rattle.tn_cycle.specs.Widths.{most_label}
 use Rattle.tn_graph.specs.Blocks.{arcs_of}
-use Rattle.tn_plain_data.specs.Prices.{price_at}
-use Rattle.tn_network.proofs.EachLemmas.{meet_all}
-use Rattle.tn_network.proofs.BoundLemmas.{equilibrium_possible}
+use Rattle.tn_model.specs.Prices.{price_at}
+use Rattle.tn_network_laws.proofs.EachLemmas.{meet_all}
+use Rattle.tn_network_laws.proofs.BoundLemmas.{equilibrium_possible}
 use Rattle.tn_range.specs.Shown.{AreRangesBy}
 use Rattle.tn_range.proofs.RangeLemmas.{found, prices_keep, prices_near, costs_small, all_ranges}
 use Rattle.tn_range.proofs.ranges.range.Goals as goal

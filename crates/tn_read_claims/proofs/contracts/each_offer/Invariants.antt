@@ -1,7 +1,7 @@
 -- What the loops of `each_offer` of `src/contracts.rt` keep.
 use Rattle.std.proofs.Common.{◌≡◌, drop}
 use Rattle.serde_json.specs.View.{items_view}
-use Rattle.tn_shape.specs.Reading.{each}
+use Rattle.tn_read_shapes.specs.Reading.{each}
 use Rattle.tn_read_parts.specs.Lists.{list_place}
 use Rattle.tn_read_claims.specs.Members.{no_offers, one_offer}
 use Rattle.tn_read_claims.proofs.contracts.each_offer.Given as goal

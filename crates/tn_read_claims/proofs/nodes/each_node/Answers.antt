@@ -2,7 +2,7 @@
 use Rattle.std.proofs.Common.{arith}
 use Rattle.std.proofs.lemmas.Result.{err_from_is_err_and}
 use Rattle.tn_read_claims.specs.Members.{one_node}
-use Rattle.tn_shape.proofs.EachLemmas.{each_goes_on, each_is_done, each_fails}
+use Rattle.tn_read_shapes.proofs.EachLemmas.{each_goes_on, each_is_done, each_fails}
 use Rattle.tn_read_claims.proofs.nodes.each_node.Goals as goal
 
 pub returns-in_err-add_node : goal.returns-in_err-add_node

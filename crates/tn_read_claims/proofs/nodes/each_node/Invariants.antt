@@ -1,7 +1,7 @@
 -- What the loops of `each_node` of `src/nodes.rt` keep.
 use Rattle.std.proofs.Common.{◌≡◌, length, drop, []}
 use Rattle.serde_json.specs.View.{items_view}
-use Rattle.tn_shape.specs.Reading.{each}
+use Rattle.tn_read_shapes.specs.Reading.{each}
 use Rattle.tn_read_claims.specs.Members.{one_node}
 use Rattle.tn_read_claims.proofs.nodes.each_node.Given as goal
 

@@ -2,7 +2,7 @@
 use Rattle.std.proofs.Common.{arith}
 use Rattle.std.proofs.lemmas.Result.{err_from_is_err_and}
 use Rattle.tn_read_claims.specs.Planned.{one_part}
-use Rattle.tn_shape.proofs.EachLemmas.{each_goes_on, each_is_done, each_fails}
+use Rattle.tn_read_shapes.proofs.EachLemmas.{each_goes_on, each_is_done, each_fails}
 use Rattle.tn_read_claims.proofs.plan.each_part.Goals as goal
 
 pub returns-in_err-add_part : goal.returns-in_err-add_part

@@ -1,7 +1,7 @@
 -- What the loops of `each_part` of `src/plan.rt` keep.
 use Rattle.std.proofs.Common.{◌≡◌, length, drop, []}
 use Rattle.serde_json.specs.View.{items_view}
-use Rattle.tn_shape.specs.Reading.{each}
+use Rattle.tn_read_shapes.specs.Reading.{each}
 use Rattle.tn_read_claims.specs.Planned.{one_part}
 use Rattle.tn_read_claims.proofs.plan.each_part.Given as goal
 

@@ -4,10 +4,10 @@ use Rattle.std.proofs.lemmas.Result.{err_from_is_err_and}
 use Rattle.std.proofs.lemmas.List.{length-map, map_push}
 use Rattle.std.proofs.lemmas.List.Elements.{All-push, All-same}
 use Rattle.serde_json.specs.View.{items_view}
-use Rattle.tn_shape.specs.Reading.{each}
+use Rattle.tn_read_shapes.specs.Reading.{each}
 use Rattle.tn_read_firms.specs.Firms.{one_firm}
-use Rattle.tn_shape.proofs.EachLemmas.{each_goes_on, each_is_done, each_fails}
-use Rattle.tn_plain_data.specs.Limits.{most_own_trades}
+use Rattle.tn_read_shapes.proofs.EachLemmas.{each_goes_on, each_is_done, each_fails}
+use Rattle.tn_model.specs.Limits.{most_own_trades}
 use Rattle.tn_read_references.specs.Ordered.{sides_of}
 use Rattle.tn_read_firms.proofs.FirmLemmas.{below_more, one_firm-fails, one_firm-next}
 use Rattle.tn_read_firms.proofs.firms.read_firms.Goals as goal

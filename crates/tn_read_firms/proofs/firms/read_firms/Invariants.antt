@@ -2,9 +2,9 @@
 use Rattle.std.proofs.Common.{◌≡◌, ℕ, ◌<◌, ◌≤◌, length, drop, map, []}
 use Rattle.std.specs.Prelude.{All}
 use Rattle.serde_json.specs.View.{items_view}
-use Rattle.tn_plain_data.specs.Limits.{most_own_trades}
+use Rattle.tn_model.specs.Limits.{most_own_trades}
 use Rattle.tn_read_references.specs.Ordered.{sides_of}
-use Rattle.tn_shape.specs.Reading.{each}
+use Rattle.tn_read_shapes.specs.Reading.{each}
 use Rattle.tn_read_firms.specs.Firms.{one_firm}
 use Rattle.tn_read_firms.proofs.firms.read_firms.Given as goal
 

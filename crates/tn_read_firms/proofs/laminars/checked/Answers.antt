@@ -1,9 +1,9 @@
 -- What shows the clauses of `checked` of `src/laminars.rt`.
 use Rattle.std.proofs.Common.{sym, ap, ◌∙◌, Ok}
 use Rattle.tn_laminar.specs.Sum.{laminar_firm}
-use Rattle.tn_shape.specs.Reading.{◌>>=◌}
+use Rattle.tn_read_shapes.specs.Reading.{◌>>=◌}
 use Rattle.tn_read_firms.specs.Laminars.{checked_laminar}
-use Rattle.tn_shape.proofs.EachLemmas.{fails_then}
+use Rattle.tn_read_shapes.proofs.EachLemmas.{fails_then}
 use Rattle.tn_read_firms.proofs.SoundLemmas.{check_sets-sound, check_sets-fails}
 use Rattle.tn_read_firms.proofs.laminars.checked.Goals as goal
 

@@ -1,7 +1,7 @@
 -- What the loops of `each_set` of `src/laminars.rt` keep.
 use Rattle.std.proofs.Common.{◌≡◌, length, drop, []}
 use Rattle.serde_json.specs.View.{items_view}
-use Rattle.tn_shape.specs.Reading.{each}
+use Rattle.tn_read_shapes.specs.Reading.{each}
 use Rattle.tn_read_firms.specs.Laminars.{one_set}
 use Rattle.tn_read_firms.proofs.laminars.each_set.Given as goal
 

@@ -2,7 +2,7 @@
 use Rattle.std.proofs.Common.{◌∙◌}
 use Rattle.std.proofs.lemmas.Result.{err_from_is_err_and}
 use Rattle.tn_read_firms.specs.OwnNumbers.{one_own}
-use Rattle.tn_shape.proofs.EachLemmas.{each_goes_on, each_is_done, each_fails}
+use Rattle.tn_read_shapes.proofs.EachLemmas.{each_goes_on, each_is_done, each_fails}
 use Rattle.tn_read_firms.proofs.own_numbers.read_entries.Goals as goal
 
 pub returns-in_err-add_entry-clause-gives : goal.returns-in_err-add_entry-clause-gives

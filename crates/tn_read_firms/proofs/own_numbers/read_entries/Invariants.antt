@@ -1,7 +1,7 @@
 -- What the loops of `read_entries` of `src/own_numbers.rt` keep.
 use Rattle.std.proofs.Common.{◌≡◌, length, drop}
 use Rattle.serde_json.specs.View.{items_view}
-use Rattle.tn_shape.specs.Reading.{each}
+use Rattle.tn_read_shapes.specs.Reading.{each}
 use Rattle.tn_read_firms.specs.OwnNumbers.{one_own}
 use Rattle.tn_read_firms.proofs.own_numbers.read_entries.Given as goal
 

@@ -2,10 +2,10 @@
 use Rattle.std.proofs.Common.{◌≡◌, ◌++◌, [], ◌∷◌, length, Bool, ap, sym, ◌∙◌, subst, arith}
 use Rattle.std.specs.Prelude.{nat_le, ◌||◌}
 use Rattle.std.proofs.lemmas.Bool.{le-leb, lt-leb, or_left}
-use Rattle.tn_base.specs.declared.fault.FaultKind.TheVariants.{Limit}
-use Rattle.tn_plain_data.specs.declared.place.PlaceStep.TheVariants.{Key}
-use Rattle.tn_plain_data.specs.declared.place.Word.TheVariants.{Rows as RowsWord}
-use Rattle.tn_shape.specs.Reading.{Gives, holds}
+use Rattle.tn_said.specs.declared.fault.FaultKind.TheVariants.{Limit}
+use Rattle.tn_said.specs.declared.place.PlaceStep.TheVariants.{Key}
+use Rattle.tn_said.specs.declared.place.Word.TheVariants.{Rows as RowsWord}
+use Rattle.tn_read_shapes.specs.Reading.{Gives, holds}
 use Rattle.tn_read_references.specs.References.{firm_place}
 use Rattle.tn_read_firms.specs.Tables.{full_if_large, has_each_row}
 use Rattle.tn_read_firms.proofs.FullLemmas.{full_is}

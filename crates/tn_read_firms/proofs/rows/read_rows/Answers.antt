@@ -5,10 +5,10 @@ use Rattle.std.proofs.lemmas.Result.{err_from_is_err_and}
 use Rattle.std.proofs.Math.Nat.{pow-le-pow_right}
 use Rattle.serde_json.specs.View.{items_view}
 use Rattle.tn_exchange.specs.Rows.{TableRows, without_rows}
-use Rattle.tn_shape.specs.Reading.{◌>>=◌, each}
+use Rattle.tn_read_shapes.specs.Reading.{◌>>=◌, each}
 use Rattle.tn_read_references.specs.Ordered.{sides_of}
-use Rattle.tn_read_firms.specs.Tables.{filled, full_if_large, one_row, rows_of}
-use Rattle.tn_shape.proofs.EachLemmas.{each_goes_on, each_is_done, each_fails, fails_then}
+use Rattle.tn_read_firms.specs.Tables.{filled_count, full_if_large, one_row, rows_of}
+use Rattle.tn_read_shapes.proofs.EachLemmas.{each_goes_on, each_is_done, each_fails, fails_then}
 use Rattle.tn_read_firms.proofs.RowLemmas.{filled_le, filled-none}
 use Rattle.tn_read_firms.proofs.rows.read_rows.Goals as goal
 
@@ -20,7 +20,7 @@ loop-row-init c =
       sides = ap (λ (t : TableRows). t.sides) made;
       places = ap (λ (t : TableRows). length t.rows) made ∙ length-replicate _ None
           ∙ ap (λ (t : TableRows). 2 ^ length t.sides) (sym made);
-      filled = sym (ap (λ (t : TableRows). filled t.rows) made
+      filled = sym (ap (λ (t : TableRows). filled_count t.rows) made
           ∙ filled-none (2 ^ length (sides_of c.args.head.now.ends c.args.f)));
       rest = ap (λ (t : TableRows). each (one_row c.args.head.now c.args.f) (record { count = 0; table = t })
           (items_view c.args.rows.now)) made;

@@ -2,7 +2,7 @@
 use Rattle.std.proofs.Common.{◌∙◌, arith}
 use Rattle.std.proofs.lemmas.Result.{err_from_is_err_and}
 use Rattle.tn_read_head.specs.Naming.{one_firm_name}
-use Rattle.tn_shape.proofs.EachLemmas.{each_goes_on, each_is_done}
+use Rattle.tn_read_shapes.proofs.EachLemmas.{each_goes_on, each_is_done}
 use Rattle.tn_read_head.proofs.BesideLemmas.{each_fails_beside}
 use Rattle.tn_read_head.proofs.names.read_firm_names.Goals as goal
 

@@ -1,7 +1,7 @@
 -- What the loops of `read_firm_names` of `src/names.rt` keep.
 use Rattle.std.proofs.Common.{◌≡◌, length, drop}
 use Rattle.serde_json.specs.View.{items_view}
-use Rattle.tn_shape.specs.Reading.{each}
+use Rattle.tn_read_shapes.specs.Reading.{each}
 use Rattle.tn_read_head.specs.Naming.{one_firm_name}
 use Rattle.tn_read_head.proofs.names.read_firm_names.Given as goal
 

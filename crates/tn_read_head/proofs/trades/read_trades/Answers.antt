@@ -2,9 +2,9 @@
 use Rattle.std.proofs.Common.{ap, ◌∙◌, ◌∷◌, [], length, arith, length-append}
 use Rattle.std.proofs.lemmas.Result.{err_from_is_err_and}
 use Rattle.tn_read_head.specs.Naming.{one_trade}
-use Rattle.tn_shape.proofs.EachLemmas.{each_goes_on, each_is_done}
+use Rattle.tn_read_shapes.proofs.EachLemmas.{each_goes_on, each_is_done}
 use Rattle.tn_read_head.proofs.BesideLemmas.{each_fails_beside}
-use Rattle.tn_plain_data.proofs.InOrderLemmas.{AreInOrder-push}
+use Rattle.tn_model.proofs.InOrderLemmas.{AreInOrder-push}
 use Rattle.tn_read_head.proofs.trades.read_trades.Goals as goal
 
 pub returns-in_err-next-clause-gives : goal.returns-in_err-next-clause-gives

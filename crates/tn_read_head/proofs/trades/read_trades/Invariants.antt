@@ -1,7 +1,7 @@
 -- What the loops of `read_trades` of `src/trades.rt` keep.
 use Rattle.std.proofs.Common.{◌≡◌, length, drop, []}
 use Rattle.serde_json.specs.View.{items_view}
-use Rattle.tn_shape.specs.Reading.{each}
+use Rattle.tn_read_shapes.specs.Reading.{each}
 use Rattle.tn_read_references.specs.Ordered.{AreInOrder}
 use Rattle.tn_read_head.specs.Naming.{one_trade}
 use Rattle.tn_read_head.proofs.trades.read_trades.Given as goal

@@ -1,7 +1,7 @@
 -- What the loops of `each_edit` of `src/edits.rt` keep.
 use Rattle.std.proofs.Common.{◌≡◌, length, drop, []}
 use Rattle.serde_json.specs.View.{items_view}
-use Rattle.tn_shape.specs.Reading.{each}
+use Rattle.tn_read_shapes.specs.Reading.{each}
 use Rattle.tn_read_parts.specs.Edited.{one_edit}
 use Rattle.tn_read_parts.proofs.edits.each_edit.Given as goal
 

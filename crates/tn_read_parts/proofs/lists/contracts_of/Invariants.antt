@@ -1,7 +1,7 @@
 -- What the loops of `contracts_of` of `src/lists.rt` keep.
 use Rattle.std.proofs.Common.{◌≡◌}
-use Rattle.tn_plain_data.specs.Prices.{price_at}
-use Rattle.tn_plain_data.specs.Choices.{contracts_of}
+use Rattle.tn_model.specs.Prices.{price_at}
+use Rattle.tn_model.specs.Choices.{contracts_of}
 use Rattle.tn_read_parts.proofs.lists.contracts_of.Given as goal
 
 abbrev pub invariant-loop-t : goal.invariant-loop-t

@@ -1,7 +1,7 @@
 -- What shows the clauses of `read_trades` of `src/lists.rt`.
 use Rattle.std.proofs.lemmas.Result.{err_from_is_err_and}
 use Rattle.tn_read_parts.specs.Lists.{list_place, one_on}
-use Rattle.tn_shape.proofs.EachLemmas.{each_goes_on, each_is_done, each_fails}
+use Rattle.tn_read_shapes.proofs.EachLemmas.{each_goes_on, each_is_done, each_fails}
 use Rattle.tn_read_parts.proofs.lists.read_trades.Goals as goal
 
 pub returns-in_err-add_trade : goal.returns-in_err-add_trade

@@ -1,7 +1,7 @@
 -- What the loops of `read_trades` of `src/lists.rt` keep.
 use Rattle.std.proofs.Common.{◌≡◌, drop}
 use Rattle.serde_json.specs.View.{items_view}
-use Rattle.tn_shape.specs.Reading.{each}
+use Rattle.tn_read_shapes.specs.Reading.{each}
 use Rattle.tn_read_parts.specs.Lists.{list_place, one_on}
 use Rattle.tn_read_parts.proofs.lists.read_trades.Given as goal
 

@@ -1,7 +1,7 @@
 -- What shows the clauses of `each_own` of `src/own_lists.rt`.
 use Rattle.std.proofs.lemmas.Result.{err_from_is_err_and}
 use Rattle.tn_read_references.specs.References.{own_reference, part_place}
-use Rattle.tn_shape.proofs.EachLemmas.{each_goes_on, each_is_done, each_fails}
+use Rattle.tn_read_shapes.proofs.EachLemmas.{each_goes_on, each_is_done, each_fails}
 use Rattle.tn_read_references.proofs.own_lists.each_own.Goals as goal
 
 pub returns-in_err-bundle-clause-gives : goal.returns-in_err-bundle-clause-gives

@@ -1,7 +1,7 @@
 -- What the loops of `each_own` of `src/own_lists.rt` keep.
 use Rattle.std.proofs.Common.{◌≡◌, ◌<◌, ◌^◌, length, drop}
 use Rattle.serde_json.specs.View.{items_view}
-use Rattle.tn_shape.specs.Reading.{each}
+use Rattle.tn_read_shapes.specs.Reading.{each}
 use Rattle.tn_read_references.specs.Ordered.{sides_of}
 use Rattle.tn_read_references.specs.References.{own_reference, part_place}
 use Rattle.tn_read_references.proofs.own_lists.each_own.Given as goal

@@ -1,7 +1,7 @@
 -- What shows the clauses of `own_position` of `src/references.rt`.
 use Rattle.std.proofs.Common.{sym, ◌∙◌, arith}
 use Rattle.std.proofs.lemmas.Option.{slice_get-get_or}
-use Rattle.tn_plain_data.specs.declared.ends.Ends.{Ends}
+use Rattle.tn_model.specs.declared.ends.Ends.{Ends}
 use Rattle.tn_read_references.proofs.EndsLemmas.{found_within, position_on-within}
 use Rattle.tn_read_references.proofs.references.own_position.Goals as goal
 

@@ -1,6 +1,6 @@
 -- What shows the clauses of `all_trades` of `src/halves.rt`.
 use Rattle.std.proofs.Common.{◌∙◌, arith, ap₂, ◌++◌, ℕ, List}
-use Rattle.tn_plain_data.specs.declared.ends.Ends.{Ends}
+use Rattle.tn_model.specs.declared.ends.Ends.{Ends}
 use Rattle.tn_residual.specs.Residual.{halves_from}
 use Rattle.tn_residual.proofs.MakingLemmas.{contracts_few}
 use Rattle.tn_residual.proofs.halves.all_trades.Goals as goal

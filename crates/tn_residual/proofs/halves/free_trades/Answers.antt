@@ -1,6 +1,6 @@
 -- What shows the clauses of `free_trades` of `src/halves.rt`.
 use Rattle.std.proofs.Common.{◌∙◌, arith, ap, Vec, Global}
-use Rattle.tn_plain_data.specs.declared.ends.Ends.{Ends}
+use Rattle.tn_model.specs.declared.ends.Ends.{Ends}
 use Rattle.tn_residual.proofs.MakingLemmas.{priced_or_not, free_more, free_same}
 use Rattle.tn_residual.proofs.halves.free_trades.Goals.{then-is_none+in_ok-push, else-is_none}
 use Rattle.tn_residual.proofs.halves.free_trades.Goals as goal

@@ -9,8 +9,8 @@ use Rattle.std.proofs.lemmas.List.Elements.{All-push}
 use mir.Syntax.{w128}
 use mir.Val.{SFits, of_z, to_z}
 use Rattle.tn_base.specs.Arcs.{IsAtMost}
-use Rattle.tn_plain_data.specs.declared.contract.Contract.{Contract}
-use Rattle.tn_plain_data.specs.Limits.{most_numerator}
+use Rattle.tn_model.specs.declared.contract.Contract.{Contract}
+use Rattle.tn_model.specs.Limits.{most_numerator}
 use Rattle.tn_market.specs.Outside.{outside}
 use Rattle.tn_market.specs.declared.party.Party.{Party}
 use Rattle.tn_market.specs.Parties.{party_firm, party_limit}

@@ -2,7 +2,7 @@
 use Rattle.std.proofs.Common.{◌≡◌, ◌≤◌, ◌*◌, ◌++◌, map, take, ℕ}
 use Rattle.std.specs.Int.RustNames.{unsigned_abs}
 use Rattle.std.specs.List.{All}
-use Rattle.tn_plain_data.specs.Limits.{most_numerator}
+use Rattle.tn_model.specs.Limits.{most_numerator}
 use Rattle.tn_market.specs.Parties.{party_firm, party_limit}
 use Rattle.tn_residual.specs.Residual.{outsides}
 use Rattle.tn_residual.proofs.parties.add_outsides.Given as goal

@@ -11,8 +11,8 @@ use Rattle.tn_market.specs.declared.party.Party.{Party}
 use Rattle.tn_market.specs.Parties.{party_firm, party_limit}
 use Rattle.tn_market.specs.Valued.{IsWorthAtMost}
 use Rattle.tn_market.specs.Widths.{most_limit}
-use Rattle.tn_plain_data.specs.Limits.{most_worth_among}
-use Rattle.tn_plain_data.specs.Network.{part}
+use Rattle.tn_model.specs.Limits.{most_worth_among}
+use Rattle.tn_model.specs.Network.{part}
 use Rattle.tn_residual.specs.Residual.{levied_from, unsigned}
 use Rattle.tn_residual.proofs.MakingLemmas.{among_small, levied_from-next, levy_fits, one_more}
 use Rattle.tn_residual.proofs.TradeLemmas.{levied_firm}

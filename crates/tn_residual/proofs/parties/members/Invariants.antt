@@ -1,7 +1,7 @@
 -- What the loops of `members` of `src/parties.rt` keep.
 use Rattle.std.proofs.Common.{◌≡◌, ◌≤◌, length, map, take}
 use Rattle.std.specs.List.{All}
-use Rattle.tn_plain_data.specs.Limits.{most_worth_among}
+use Rattle.tn_model.specs.Limits.{most_worth_among}
 use Rattle.tn_market.specs.Levied.{levied_limit}
 use Rattle.tn_market.specs.Parties.{party_firm, party_limit}
 use Rattle.tn_residual.specs.Residual.{levied_from}

@@ -1,6 +1,6 @@
 -- What the loops of `unsigned_of` of `src/parties.rt` keep.
 use Rattle.std.proofs.Common.{◌≡◌, length}
-use Rattle.tn_plain_data.specs.Network.{part}
+use Rattle.tn_model.specs.Network.{part}
 use Rattle.tn_residual.specs.Residual.{unsigned}
 use Rattle.tn_residual.proofs.parties.unsigned_of.Given as goal
 

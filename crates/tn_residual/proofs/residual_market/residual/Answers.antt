@@ -10,7 +10,7 @@ use Rattle.tn_base.specs.Firm.{HasOwnBundles}
 use Rattle.tn_market.specs.declared.party.Party.{Party}
 use Rattle.tn_market.specs.Traded.{Traded}
 use Rattle.tn_market.specs.Parties.{party_firm, party_limit}
-use Rattle.tn_network.proofs.EachLemmas.{each_firm}
+use Rattle.tn_network_laws.proofs.EachLemmas.{each_firm}
 use Rattle.tn_residual.specs.Residual.{residual_limit, residual_trades}
 use Rattle.tn_residual.specs.Surplus.{IsSurplusOfReduced}
 use Rattle.tn_residual.proofs.MakingLemmas.{scale_fits, contracts_few, outcome_feasible, trades_few}

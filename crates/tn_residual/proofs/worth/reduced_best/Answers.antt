@@ -7,10 +7,10 @@ use Rattle.tn_base.specs.Sets.{meet}
 use Rattle.tn_base.specs.Firm.{utility}
 use Rattle.tn_base.proofs.SetLemmas.{union_within, set_of_within}
 use Rattle.tn_market.specs.Best.{GivesBest}
-use Rattle.tn_plain_data.specs.Prices.{price_at}
+use Rattle.tn_model.specs.Prices.{price_at}
 use Rattle.tn_market.specs.Signed.{signed_bundle, contract_utility}
 use Rattle.tn_residual.specs.Held.{GivesPart}
-use Rattle.tn_outcome.proofs.ReducedLemmas.{reduced_worths_are_greatest}
+use Rattle.tn_outcome_laws.proofs.ReducedLemmas.{reduced_worths_are_greatest}
 use Rattle.tn_residual.proofs.HeldLemmas.{best_at_held, part_of_best, same_utility}
 use Rattle.tn_residual.proofs.worth.reduced_best.Goals as goal
 

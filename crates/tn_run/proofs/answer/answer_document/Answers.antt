@@ -26,78 +26,78 @@ answer_network-requires-clause-worths c =
     (market_fits (need_of c.args.command) c.args.doc.now c.requires.document c.in-Market.market c.in-Market.extra
     c.in-Market.is).worths
 
-pub check-requires-clause-wide : goal.check-requires-clause-wide
-check-requires-clause-wide c =
+pub answer_check-requires-clause-wide : goal.answer_check-requires-clause-wide
+answer_check-requires-clause-wide c =
     (market_fits (need_of c.args.command) c.args.doc.now c.requires.document c.in-Market.market c.in-Market.extra
     c.in-Market.is).few_trades
 
-pub prices_for-requires-clause-wide : goal.prices_for-requires-clause-wide
-prices_for-requires-clause-wide c =
+pub answer_support-requires-clause-wide : goal.answer_support-requires-clause-wide
+answer_support-requires-clause-wide c =
     (market_fits (need_of c.args.command) c.args.doc.now c.requires.document c.in-Market.market c.in-Market.extra
     c.in-Market.is).few_trades
 
-pub prices_for-requires-clause-worths : goal.prices_for-requires-clause-worths
-prices_for-requires-clause-worths c =
+pub answer_support-requires-clause-worths : goal.answer_support-requires-clause-worths
+answer_support-requires-clause-worths c =
     (market_fits (need_of c.args.command) c.args.doc.now c.requires.document c.in-Market.market c.in-Market.extra
     c.in-Market.is).worths
 
-pub judge_outcome-requires-clause-few_firms : goal.judge_outcome-requires-clause-few_firms
-judge_outcome-requires-clause-few_firms c =
+pub answer_judge-requires-clause-few_firms : goal.answer_judge-requires-clause-few_firms
+answer_judge-requires-clause-few_firms c =
     (market_fits (need_of c.args.command) c.args.doc.now c.requires.document c.in-Market.market c.in-Market.extra
     c.in-Market.is).few_firms
 
-pub judge_outcome-requires-clause-wide : goal.judge_outcome-requires-clause-wide
-judge_outcome-requires-clause-wide c =
+pub answer_judge-requires-clause-wide : goal.answer_judge-requires-clause-wide
+answer_judge-requires-clause-wide c =
     (market_fits (need_of c.args.command) c.args.doc.now c.requires.document c.in-Market.market c.in-Market.extra
     c.in-Market.is).few_trades
 
-pub judge_outcome-requires-clause-worths : goal.judge_outcome-requires-clause-worths
-judge_outcome-requires-clause-worths c =
+pub answer_judge-requires-clause-worths : goal.answer_judge-requires-clause-worths
+answer_judge-requires-clause-worths c =
     (market_fits (need_of c.args.command) c.args.doc.now c.requires.document c.in-Market.market c.in-Market.extra
     c.in-Market.is).worths
 
-pub states_after-requires-clause-wide : goal.states_after-requires-clause-wide
-states_after-requires-clause-wide c =
+pub answer_session-requires-clause-wide : goal.answer_session-requires-clause-wide
+answer_session-requires-clause-wide c =
     (market_fits (need_of c.args.command) c.args.doc.now c.requires.document c.in-Market.market c.in-Market.extra
     c.in-Market.is).few_trades
 
-pub states_after-requires-clause-worths : goal.states_after-requires-clause-worths
-states_after-requires-clause-worths c =
+pub answer_session-requires-clause-worths : goal.answer_session-requires-clause-worths
+answer_session-requires-clause-worths c =
     (market_fits (need_of c.args.command) c.args.doc.now c.requires.document c.in-Market.market c.in-Market.extra
     c.in-Market.is).worths
 
-pub replay_claim-requires-clause-few_firms : goal.replay_claim-requires-clause-few_firms
-replay_claim-requires-clause-few_firms c =
+pub answer_replay-requires-clause-few_firms : goal.answer_replay-requires-clause-few_firms
+answer_replay-requires-clause-few_firms c =
     (market_fits (need_of c.args.command) c.args.doc.now c.requires.document c.in-Market.market c.in-Market.extra
     c.in-Market.is).few_firms
 
-pub replay_claim-requires-clause-wide : goal.replay_claim-requires-clause-wide
-replay_claim-requires-clause-wide c =
+pub answer_replay-requires-clause-wide : goal.answer_replay-requires-clause-wide
+answer_replay-requires-clause-wide c =
     (market_fits (need_of c.args.command) c.args.doc.now c.requires.document c.in-Market.market c.in-Market.extra
     c.in-Market.is).few_trades
 
-pub replay_claim-requires-clause-worths : goal.replay_claim-requires-clause-worths
-replay_claim-requires-clause-worths c =
+pub answer_replay-requires-clause-worths : goal.answer_replay-requires-clause-worths
+answer_replay-requires-clause-worths c =
     (market_fits (need_of c.args.command) c.args.doc.now c.requires.document c.in-Market.market c.in-Market.extra
     c.in-Market.is).worths
 
-pub test-requires-clause-few_firms : goal.test-requires-clause-few_firms
-test-requires-clause-few_firms c =
+pub answer_test-requires-clause-few_firms : goal.answer_test-requires-clause-few_firms
+answer_test-requires-clause-few_firms c =
     (raw_fits (need_of c.args.command) c.args.doc.now c.requires.document c.in-Raw.net c.in-Raw.extra
     c.in-Raw.is).few_firms
 
-pub test-requires-clause-few_trades : goal.test-requires-clause-few_trades
-test-requires-clause-few_trades c =
+pub answer_test-requires-clause-few_trades : goal.answer_test-requires-clause-few_trades
+answer_test-requires-clause-few_trades c =
     (raw_fits (need_of c.args.command) c.args.doc.now c.requires.document c.in-Raw.net c.in-Raw.extra
     c.in-Raw.is).few_trades
 
-pub replay_raw-requires-clause-few_firms : goal.replay_raw-requires-clause-few_firms
-replay_raw-requires-clause-few_firms c =
+pub answer_replay_raw-requires-clause-few_firms : goal.answer_replay_raw-requires-clause-few_firms
+answer_replay_raw-requires-clause-few_firms c =
     (raw_fits (need_of c.args.command) c.args.doc.now c.requires.document c.in-Raw.net c.in-Raw.extra
     c.in-Raw.is).few_firms
 
-pub replay_raw-requires-clause-few_trades : goal.replay_raw-requires-clause-few_trades
-replay_raw-requires-clause-few_trades c =
+pub answer_replay_raw-requires-clause-few_trades : goal.answer_replay_raw-requires-clause-few_trades
+answer_replay_raw-requires-clause-few_trades c =
     (raw_fits (need_of c.args.command) c.args.doc.now c.requires.document c.in-Raw.net c.in-Raw.extra
     c.in-Raw.is).few_trades
 
@@ -110,9 +110,9 @@ returns-in-Arrangement-clause-answer c =
     let content = c.in-Market.is ∙ ap (λ (extra : Extra). Market market extra) c.in-Arrangement.is in
     subst (λ (held : Content). IsFor (need_of command) held
     → IsDocument (need_of command) (document_view (record { names = names; content = held }))
-    → IfOk c.check.result (IsAnswerOf command (document_view (record { names = names; content = held }))))
+    → IfOk c.answer_check.result (IsAnswerOf command (document_view (record { names = names; content = held }))))
     (sym content)
-    (λ needed document. verdict_answers command names market at c.check.result needed document c.check.ensures.answer)
+    (λ needed document. verdict_answers command names market at c.answer_check.result needed document c.answer_check.ensures.answer)
     c.requires.needed c.requires.document
 
 pub returns-in-None-clause-answer : goal.returns-in-None-clause-answer
@@ -124,42 +124,42 @@ returns-in-None-clause-answer c =
 
 pub returns-in-On-clause-answer : goal.returns-in-On-clause-answer
 returns-in-On-clause-answer c =
-    on_content c.args.command c.args.doc.now (Market c.in-Market.market (On c.in-On.on)) c.prices_for.result
+    on_content c.args.command c.args.doc.now (Market c.in-Market.market (On c.in-On.on)) c.answer_support.result
     (c.in-Market.is ∙ ap (λ (extra : Extra). Market c.in-Market.market extra) c.in-On.is) c.requires.needed
-    (λ needed. support_answers c.args.doc.now.names c.in-Market.market c.prices_for.result c.args.command c.in-On.on needed
-    c.prices_for.ensures.answer)
+    (λ needed. support_answers c.args.doc.now.names c.in-Market.market c.answer_support.result c.args.command c.in-On.on needed
+    c.answer_support.ensures.answer)
 
 pub returns-in-Outcome-clause-answer : goal.returns-in-Outcome-clause-answer
 returns-in-Outcome-clause-answer c =
-    on_content c.args.command c.args.doc.now (Market c.in-Market.market (Outcome c.in-Outcome.outcome)) c.judge_outcome.result
+    on_content c.args.command c.args.doc.now (Market c.in-Market.market (Outcome c.in-Outcome.outcome)) c.answer_judge.result
     (c.in-Market.is ∙ ap (λ (extra : Extra). Market c.in-Market.market extra) c.in-Outcome.is) c.requires.needed
-    (λ needed. outcome_answers c.args.doc.now.names c.in-Market.market c.judge_outcome.result c.args.command c.in-Outcome.outcome needed
-    c.judge_outcome.ensures.answer)
+    (λ needed. outcome_answers c.args.doc.now.names c.in-Market.market c.answer_judge.result c.args.command c.in-Outcome.outcome needed
+    c.answer_judge.ensures.answer)
 
 pub returns-in-Edits-clause-answer : goal.returns-in-Edits-clause-answer
 returns-in-Edits-clause-answer c =
-    on_content c.args.command c.args.doc.now (Market c.in-Market.market (Edits c.in-Edits.edits)) c.states_after.result
+    on_content c.args.command c.args.doc.now (Market c.in-Market.market (Edits c.in-Edits.edits)) c.answer_session.result
     (c.in-Market.is ∙ ap (λ (extra : Extra). Market c.in-Market.market extra) c.in-Edits.is) c.requires.needed
-    (λ needed. edits_answer c.args.doc.now.names c.in-Market.market c.states_after.result c.args.command c.in-Edits.edits needed
-    c.states_after.ensures.answer)
+    (λ needed. edits_answer c.args.doc.now.names c.in-Market.market c.answer_session.result c.args.command c.in-Edits.edits needed
+    c.answer_session.ensures.answer)
 
 pub returns-in-Claim-clause-answer : goal.returns-in-Claim-clause-answer
 returns-in-Claim-clause-answer c =
-    on_content c.args.command c.args.doc.now (Market c.in-Market.market (Claim c.in-Claim.claim)) c.replay_claim.result
+    on_content c.args.command c.args.doc.now (Market c.in-Market.market (Claim c.in-Claim.claim)) c.answer_replay.result
     (c.in-Market.is ∙ ap (λ (extra : Extra). Market c.in-Market.market extra) c.in-Claim.is) c.requires.needed
-    (λ needed. claim_answers c.args.doc.now.names c.in-Market.market c.replay_claim.result c.args.command c.in-Claim.claim needed
-    c.replay_claim.ensures.answer)
+    (λ needed. claim_answers c.args.doc.now.names c.in-Market.market c.answer_replay.result c.args.command c.in-Claim.claim needed
+    c.answer_replay.ensures.answer)
 
 pub returns-in-None-extra-clause-answer : goal.returns-in-None-extra-clause-answer
 returns-in-None-extra-clause-answer c =
-    on_content c.args.command c.args.doc.now (Raw c.in-Raw.net RawNone) c.test.result
+    on_content c.args.command c.args.doc.now (Raw c.in-Raw.net RawNone) c.answer_test.result
     (c.in-Raw.is ∙ ap (λ (extra : RawExtra). Raw c.in-Raw.net extra) c.in-None-extra.is) c.requires.needed
-    (λ needed. test_answers c.args.doc.now.names c.in-Raw.net c.test.result c.args.command needed
-    c.test.ensures.answer)
+    (λ needed. test_answers c.args.doc.now.names c.in-Raw.net c.answer_test.result c.args.command needed
+    c.answer_test.ensures.answer)
 
 pub returns-in-Claim-extra-clause-answer : goal.returns-in-Claim-extra-clause-answer
 returns-in-Claim-extra-clause-answer c =
-    on_content c.args.command c.args.doc.now (Raw c.in-Raw.net (RawClaim c.in-Claim-extra.claim)) c.replay_raw.result
+    on_content c.args.command c.args.doc.now (Raw c.in-Raw.net (RawClaim c.in-Claim-extra.claim)) c.answer_replay_raw.result
     (c.in-Raw.is ∙ ap (λ (extra : RawExtra). Raw c.in-Raw.net extra) c.in-Claim-extra.is) c.requires.needed
-    (λ needed. raw_claim_answers c.args.doc.now.names c.in-Raw.net c.replay_raw.result c.args.command c.in-Claim-extra.claim needed
-    c.replay_raw.ensures.answer)
+    (λ needed. raw_claim_answers c.args.doc.now.names c.in-Raw.net c.answer_replay_raw.result c.args.command c.in-Claim-extra.claim needed
+    c.answer_replay_raw.ensures.answer)

@@ -1,6 +1,6 @@
 -- What shows the clauses of `two_stalls` of `src/stalls.rt`.
 use Rattle.std.proofs.Common.{◌≡◌, [], ◌∷◌, ap₂, ◌∙◌}
-use Rattle.tn_plain_data.specs.declared.ends.Ends.{Ends}
+use Rattle.tn_model.specs.declared.ends.Ends.{Ends}
 use Rattle.tn_tests.specs.Stall.{trade_between}
 use Rattle.tn_tests.proofs.StallLemmas.{stalls-network}
 use Rattle.tn_tests.proofs.stalls.two_stalls.Goals as goal

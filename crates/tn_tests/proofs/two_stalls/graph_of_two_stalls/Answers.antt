@@ -5,7 +5,7 @@ use Rattle.tn_base.specs.declared.memory.OutOfMemory.{OutOfMemory}
 use Rattle.tn_base.proofs.SetLemmas.{has-zero, has-toggle_same, toggle-toggle}
 use Rattle.tn_market.specs.Traded.{Traded}
 use Rattle.tn_market.proofs.GraphLemmas.{no_arc}
-use Rattle.tn_graph.specs.Blocks.{Blocks}
+use Rattle.tn_graph.specs.Blocks.{CostBlocks}
 use Rattle.tn_graph.specs.Reading.{IsWithoutArcs}
 use Rattle.tn_graph.proofs.AdmitLemmas.{among_none}
 use Rattle.tn_tests.specs.Stall.{stall}
@@ -19,7 +19,7 @@ lay_out-requires g c =
     subst (λ (r : Result (Traded Stall) OutOfMemory). IfOk r (λ market. length market.trades ≡ 2))
     c.expect-market.ensures c.two_stalls.ensures.two_trades in
     let graph_is : IsWithoutArcs 3 c.expect-graph.result =
-    subst (λ (r : Result Blocks OutOfMemory). IfOk r (λ graph. IsWithoutArcs 3 graph)) c.expect-graph.ensures
+    subst (λ (r : Result CostBlocks OutOfMemory). IfOk r (λ graph. IsWithoutArcs 3 graph)) c.expect-graph.ensures
     c.new.ensures in
     let nodes = graph_is.nodes in
     (lit< tt, (omega (arith, trades), omega (arith, trades, nodes)))
@@ -33,7 +33,7 @@ admit-requires g c =
     subst (λ (r : Result (Traded Stall) OutOfMemory). IfOk r (λ market. length market.trades ≡ 2))
     c.expect-market.ensures c.two_stalls.ensures.two_trades in
     let graph_is : IsWithoutArcs 3 c.expect-graph.result =
-    subst (λ (r : Result Blocks OutOfMemory). IfOk r (λ graph. IsWithoutArcs 3 graph)) c.expect-graph.ensures
+    subst (λ (r : Result CostBlocks OutOfMemory). IfOk r (λ graph. IsWithoutArcs 3 graph)) c.expect-graph.ensures
     c.new.ensures in
     let nodes = graph_is.nodes in
     let one_is = c.toggle.ensures.toggled ∙ ap (λ (x : ℕ). toggle x 0) c.empty-none.ensures in

@@ -7,7 +7,7 @@ use Rattle.tn_base.specs.declared.memory.OutOfMemory.{OutOfMemory}
 use Rattle.tn_market.specs.Supported.{AreSupports}
 use Rattle.tn_market.specs.Traded.{Traded}
 use Rattle.tn_market.specs.Valued.{IsWorthAtMost}
-use Rattle.tn_network.proofs.EachLemmas.{each_firm}
+use Rattle.tn_network_laws.proofs.EachLemmas.{each_firm}
 use Rattle.tn_price.specs.Supports.{IsPricedWithin, Supports}
 use Rattle.tn_price.specs.declared.supported.Support.{Support}
 use Rattle.tn_tests.specs.Stall.{stall}

@@ -4,9 +4,9 @@ use Rattle.tn_base.specs.Arcs.{AreBetweenNodes}
 use Rattle.tn_base.specs.Walks.{HasNoNegativeCycle, KeepsArcs}
 use Rattle.tn_cycle.specs.declared.cell.Cell.{Cell}
 use Rattle.tn_cycle.specs.Cells.{cell_at}
-use Rattle.tn_cycle.specs.Kept.{signed}
+use Rattle.tn_cycle.specs.Kept.{negated_if}
 use Rattle.tn_cycle.specs.Searched.{IsSettled}
-use Rattle.tn_cycle.specs.Reading.{IsListable, Reading, reading_of}
+use Rattle.tn_cycle.specs.Reading.{IsListable, Reading, finder_reading}
 use Rattle.tn_cycle.specs.Answers.{AreNear, LeadsAlong, distance_in, label_in, walk_in}
 use Rattle.tn_cycle.specs.Widths.{most_label}
 use Rattle.tn_cycle.proofs.LabelLemmas.{none_negative_kept}
@@ -37,8 +37,8 @@ find_walks-requires-clause-keeps g c =
     let given : c.args.self.now.labels ≡ c.deref_mut.result.now =
     all-read f c.args.self.now c.self.view_is (omega (arith, c.requires.labelled, same, c.self.invariant.labels_sized))
     ∙ sym c.deref_mut.ensures.value in
-    let keeps : KeepsArcs arc (λ v. signed c.args.turns (label_in c.deref_mut.result.now v)) =
-    subst (λ (labels : List ℤ). KeepsArcs arc (λ v. signed c.args.turns (label_in labels v))) given c.requires.keeps in
+    let keeps : KeepsArcs arc (λ v. negated_if c.args.turns (label_in c.deref_mut.result.now v)) =
+    subst (λ (labels : List ℤ). KeepsArcs arc (λ v. negated_if c.args.turns (label_in labels v))) given c.requires.keeps in
     let kept = signed_keep c.args.turns (g.C.Costs.node_count c.args.costs.now) arc c.deref_mut.result.now written
     (g.met.C.Costs.between_nodes c.args.costs.now)
     (omega (arith, c.requires.sized, same, c.self.invariant.labels_sized, c.deref_mut.ensures.len)) c.sign.ensures keeps
@@ -56,7 +56,7 @@ invariant_of-self g c =
     let between : AreBetweenNodes f.nodes arc =
     subst (λ (n : ℕ). AreBetweenNodes n arc) sized (g.met.C.Costs.between_nodes c.args.costs.now) in
     let none : HasNoNegativeCycle arc =
-    none_negative_kept arc (λ v. signed c.args.turns (label_in c.args.self.now.labels v)) c.requires.keeps in
+    none_negative_kept arc (λ v. negated_if c.args.turns (label_in c.args.self.now.labels v)) c.requires.keeps in
     let found : IsSettled f.nodes arc c.args.node (cell_at written) =
     subst (λ (n : ℕ). IsSettled n arc c.args.node (cell_at written)) sized c.find_walks.ensures in
     let places : length written ≡ f.row.len = omega (arith, c.find_walks.auto.row, c.deref_mut-3.ensures.len) in
@@ -77,14 +77,14 @@ returns-clause-walks g c v inside =
     let between : AreBetweenNodes f.nodes arc =
     subst (λ (n : ℕ). AreBetweenNodes n arc) sized (g.met.C.Costs.between_nodes c.args.costs.now) in
     let none : HasNoNegativeCycle arc =
-    none_negative_kept arc (λ v. signed c.args.turns (label_in c.args.self.now.labels v)) c.requires.keeps in
+    none_negative_kept arc (λ v. negated_if c.args.turns (label_in c.args.self.now.labels v)) c.requires.keeps in
     let found : IsSettled f.nodes arc c.args.node (cell_at written) =
     subst (λ (n : ℕ). IsSettled n arc c.args.node (cell_at written)) sized c.find_walks.ensures in
     let places : length written ≡ f.row.len = omega (arith, c.find_walks.auto.row, c.deref_mut-3.ensures.len) in
     subst
     (λ (row : List Cell). LeadsAlong c.args.turns arc v c.args.node
-    (walk_in (reading_of f.nodes 0 f.path.items 0 f.labels.items f.nodes c.args.turns c.args.node row) v)
-    (distance_in (reading_of f.nodes 0 f.path.items 0 f.labels.items f.nodes c.args.turns c.args.node row) v))
+    (walk_in (finder_reading f.nodes 0 f.path.items 0 f.labels.items f.nodes c.args.turns c.args.node row) v)
+    (distance_in (finder_reading f.nodes 0 f.path.items 0 f.labels.items f.nodes c.args.turns c.args.node row) v))
     (sym (written-back written f.row.items f.row.len places))
     (reads_along c.args.turns f.nodes arc c.args.node f.path.items f.labels.items written between none found v
     (omega (arith, inside, same)))

@@ -3,14 +3,14 @@ use Rattle.std.proofs.Common.{◌≡◌, ℤ, List, ap, subst, set, take}
 use Rattle.std.proofs.lemmas.Int.{to_z-of_z}
 use mir.Syntax.{w128}
 use mir.Val.{SFits}
-use Rattle.tn_cycle.specs.Reading.{Reading, reading_of}
+use Rattle.tn_cycle.specs.Reading.{Reading, finder_reading}
 use Rattle.tn_cycle.proofs.ViewLemmas.{taken-set}
 use Rattle.tn_cycle.proofs.finder.Finder.set_label.Goals as goal
 
 pub returns : goal.returns
 returns c =
     let f = c.self.inside in
-    let reading = reading_of f.nodes f.count f.path.items f.labelled f.labels.items f.reached f.turns f.end f.row.items
+    let reading = finder_reading f.nodes f.count f.path.items f.labelled f.labels.items f.reached f.turns f.end f.row.items
     in
     let fits : SFits w128 c.args.label = c.ranges.label in
     simp to_z-of_z

@@ -3,7 +3,7 @@ use Rattle.std.proofs.Common.{◌≡◌, ◌+◌, ◌<◌, ◌≤◌, ◌∙◌,
 use Rattle.std.proofs.lemmas.List.{length-take}
 use Rattle.tn_cycle.specs.declared.cell.Cell.{Cell}
 use Rattle.tn_cycle.specs.Cells.{cell_at}
-use Rattle.tn_cycle.specs.Reading.{IsListable, Reading, reading_of, walk_nodes}
+use Rattle.tn_cycle.specs.Reading.{IsListable, Reading, finder_reading, walk_nodes}
 use Rattle.tn_cycle.specs.Answers.{walk_in}
 use Rattle.tn_cycle.proofs.ReadLemmas.{front-written}
 use Rattle.tn_cycle.proofs.ViewLemmas.{places_kept, walk-read, reached-read}
@@ -32,8 +32,8 @@ invariant_of-self c =
     let had = c.self.invariant in
     let many : length c.args.self.now.distances ≡ f.reached = reached-read f c.args.self.now c.self.view_is in
     let listable = had.listable c.args.v (omega (arith, many, c.requires.inside)) in
-    let counted : c.list_walk-self-inside.result ≡ (cell_at f.row.items c.args.v).round + 2 =
-    c.list_walk-self-inside.ensures.count ∙ ap (λ (row : List Cell). (cell_at row c.args.v).round + 2)
+    let counted : c.list_walk-self-inside.result ≡ (cell_at f.row.items c.args.v).inner_nodes + 2 =
+    c.list_walk-self-inside.ensures.count ∙ ap (λ (row : List Cell). (cell_at row c.args.v).inner_nodes + 2)
     c.deref.ensures.value in
     places_kept f.nodes _ _ _ _ _ _ _ _ f.row.items c.list_walk-self-inside.result f.labelled f.reached f.row.items had
     (omega (arith, listable.few, counted))
@@ -47,13 +47,13 @@ returns-clause-listed c =
     let written = c.list_walk-self-inside.new.path in
     let rest = drop (length written) f.path.items in
     let count = c.list_walk-self-inside.result in
-    let reading = reading_of f.nodes f.count f.path.items f.labelled f.labels.items f.reached f.turns f.end f.row.items
+    let reading = finder_reading f.nodes f.count f.path.items f.labelled f.labels.items f.reached f.turns f.end f.row.items
     in
     let many : length c.args.self.now.distances ≡ f.reached = reached-read f c.args.self.now c.self.view_is in
     let inside : v < f.reached = omega (arith, many, c.requires.inside) in
     let listable = had.listable v inside in
-    let counted : count ≡ (cell_at f.row.items v).round + 2 =
-    c.list_walk-self-inside.ensures.count ∙ ap (λ (row : List Cell). (cell_at row v).round + 2) c.deref.ensures.value in
+    let counted : count ≡ (cell_at f.row.items v).inner_nodes + 2 =
+    c.list_walk-self-inside.ensures.count ∙ ap (λ (row : List Cell). (cell_at row v).inner_nodes + 2) c.deref.ensures.value in
     let places : count ≤ f.path.len = omega (arith, counted, listable.few, had.path_sized) in
     let size : count ≤ length written = omega (
       arith,
@@ -87,8 +87,8 @@ returns-clause-count c =
     let written = c.list_walk-self-inside.new.path in
     let count = c.list_walk-self-inside.result in
     let listable = c.self.invariant.listable c.args.v (omega (arith, many, c.requires.inside)) in
-    let counted : count ≡ (cell_at f.row.items c.args.v).round + 2 =
-    c.list_walk-self-inside.ensures.count ∙ ap (λ (row : List Cell). (cell_at row c.args.v).round + 2)
+    let counted : count ≡ (cell_at f.row.items c.args.v).inner_nodes + 2 =
+    c.list_walk-self-inside.ensures.count ∙ ap (λ (row : List Cell). (cell_at row c.args.v).inner_nodes + 2)
     c.deref.ensures.value in
     let places : count ≤ f.path.len = omega (arith, counted, listable.few, c.self.invariant.path_sized) in
     let size : count ≤ length written = omega (

@@ -1,7 +1,7 @@
 -- What shows the clauses of `Dealer::keeps` of `src/worth.rt`.
 use Rattle.std.proofs.Common.{ℕ, arith, ap, ◌∙◌, subst}
 use Rattle.tn_base.specs.Sets.{has, meet, minus}
-use Rattle.tn_dealer.specs.Certificates.{number_at, KeepsBeside}
+use Rattle.tn_dealer.specs.Certificates.{own_number, KeepsBeside}
 use Rattle.tn_dealer.specs.WorthLemmas.{own_pairs}
 use Rattle.tn_dealer.proofs.CertificateLemmas.{keeps_listed, keeps_more}
 use Rattle.tn_dealer.proofs.dealer.Dealer.keeps.Goals as goal
@@ -12,7 +12,7 @@ loop-buy-init c = λ buy below. absurd (omega (arith, below))
 pub loop-buy-preserved : goal.loop-buy-preserved
 loop-buy-preserved c =
     let dealer = c.args.self.now in
-    let number = number_at c.args.numbers.now in
+    let number = own_number c.args.numbers.now in
     keeps_more c.args.priced c.args.costs.now number (meet c.args.x dealer.buys) (minus c.args.x dealer.buys)
     dealer.trades c.loop-buy.buy c.loop-buy.invariant
     (λ member. subst (λ (sales : ℕ). KeepsBeside c.args.priced c.args.costs.now number sales c.loop-buy.buy
@@ -24,6 +24,6 @@ pub returns : goal.returns
 returns c = λ _.
     let dealer = c.args.self.now in
     keeps_listed dealer.trades dealer.buys dealer.pairs.items c.args.costs.now c.args.priced
-    (number_at c.args.numbers.now) c.args.x
+    (own_number c.args.numbers.now) c.args.x
     (own_pairs dealer.trades dealer.buys dealer.pairs.items dealer.dealer.own) c.requires.costs
     (λ buy near member. c.loop-buy.invariant buy (let past = c.loop-buy-test.false in omega (arith, near, past)) member)

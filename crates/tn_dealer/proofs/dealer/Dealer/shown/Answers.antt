@@ -4,9 +4,9 @@ use Rattle.std.specs.Prelude.{neg_ℤ}
 use Rattle.std.proofs.lemmas.Int.{ints, to_z-of_z}
 use mir.Syntax.{w128}
 use mir.Val.{SFits, of_z, to_z}
-use Rattle.tn_dealer.specs.Certificates.{number_at}
+use Rattle.tn_dealer.specs.Certificates.{own_number}
 use Rattle.tn_dealer.specs.Pairs.{matched_worth}
-use Rattle.tn_law.proofs.PairLemmas.{IsWorth}
+use Rattle.tn_firm_laws.proofs.PairLemmas.{IsWorth}
 use Rattle.tn_dealer.specs.WorthLemmas.{own_pairs}
 use Rattle.tn_dealer.proofs.CertificateLemmas.{shows_none, shows_least, cost_fits, minus_is}
 use Rattle.tn_dealer.proofs.dealer.Dealer.shown.Goals as goal
@@ -17,7 +17,7 @@ returns-then-keeps c =
     let fit : SFits w128 c.sum-sum.result = search rules in
     let more = simp to_z-of_z at c.if-sum-gt0.true in
     let sum = c.sum-sum.ensures.sum in
-    shows_none c.args.self.now.trades c.args.self.now.buys (number_at c.args.found.now.numbers)
+    shows_none c.args.self.now.trades c.args.self.now.buys (own_number c.args.found.now.numbers)
     c.args.self.now.pairs.items
     (own_pairs c.args.self.now.trades c.args.self.now.buys c.args.self.now.pairs.items c.args.self.now.dealer.own)
     c.args.x
@@ -37,7 +37,7 @@ returns-then-keeps-2 c =
     bundle c.taken-bundle.ensures.worth in
     let sum = c.sum-sum.ensures.sum in
     ap Some (minus_is c.taken-bundle.result.1 most_own small length_fits)
-    ∙ shows_least c.args.self.now.trades c.args.self.now.buys (number_at c.args.found.now.numbers)
+    ∙ shows_least c.args.self.now.trades c.args.self.now.buys (own_number c.args.found.now.numbers)
     c.args.self.now.pairs.items
     (own_pairs c.args.self.now.trades c.args.self.now.buys c.args.self.now.pairs.items c.args.self.now.dealer.own)
     c.args.x c.taken-bundle.result.1 worth

@@ -2,9 +2,9 @@
 use Rattle.std.proofs.Common.{◌≡◌, ℕ, ◌<◌, ◌≤◌, ◌-ℤ◌, ℤ, List, ◌∙◌, sym, subst, rules, map, length}
 use Rattle.tn_cycle.specs.Answers.{label_in}
 use Rattle.tn_market.specs.Widths.{most_market_trades}
-use Rattle.tn_plain_data.specs.Prices.{price_at}
+use Rattle.tn_model.specs.Prices.{price_at}
 use Rattle.tn_flow.specs.Solved.{IsSolution}
-use Rattle.tn_network.proofs.EachLemmas.{meet_all}
+use Rattle.tn_network_laws.proofs.EachLemmas.{meet_all}
 use Rattle.tn_flow.proofs.SolverLemmas.{small_bound, labels_small, solution_from, prices_within}
 use Rattle.tn_flow.proofs.solver.Solver.solve_among.Goals as goal
 

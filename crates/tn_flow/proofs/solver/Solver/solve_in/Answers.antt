@@ -3,9 +3,9 @@ use Rattle.std.proofs.Common.{◌≡◌, ℕ, ◌<◌, Bool, true, ◌&&◌, nat
 use Rattle.std.proofs.lemmas.Bool.{and_parts, lt-ltb, ltb-true}
 use Rattle.tn_base.specs.Sets.{has, set_of}
 use Rattle.tn_base.proofs.SetLemmas.{has-set_of}
-use Rattle.tn_plain_data.specs.Prices.{price_at}
-use Rattle.tn_network.proofs.KeptLemmas.{one_cycle_for_each_trade}
-use Rattle.tn_network.proofs.EachLemmas.{meet_all}
+use Rattle.tn_model.specs.Prices.{price_at}
+use Rattle.tn_network_laws.proofs.KeptLemmas.{one_cycle_for_each_trade}
+use Rattle.tn_network_laws.proofs.EachLemmas.{meet_all}
 use Rattle.tn_flow.proofs.solver.Solver.solve_in.Goals as goal
 
 -- a member of the set of the first trades is one of them, and each of them is a member

@@ -2,7 +2,7 @@
 use Rattle.std.proofs.Common.{ap, subst, sym, ◌∙◌, ◌≡◌, ◌+◌, arith, ℕ, map, length}
 use Rattle.std.proofs.lemmas.List.{length-map}
 use Rattle.tn_base.specs.Sets.{has}
-use Rattle.tn_graph.specs.Blocks.{Blocks, IsSound, room_of}
+use Rattle.tn_graph.specs.Blocks.{CostBlocks, HasRoomForBlocks, room_of}
 use Rattle.tn_graph.specs.Layout.{IsLaidOut, IsLaidTo}
 use Rattle.tn_graph.proofs.CellLemmas.{no_arcs}
 use Rattle.tn_graph.proofs.LayoutLemmas.{sound, laid_out}
@@ -14,7 +14,7 @@ invariant_of-self-inside g c =
     let firms = map g.V.Valuation.firm c.args.market.now.firms in
     let trades = c.args.market.now.trades in
     let nodes_is : c.self.inside.nodes ≡ length trades + 1 =
-    ap (λ (m : Blocks). m.nodes) c.self.view_is ∙ c.requires.sized in
+    ap (λ (m : CostBlocks). m.nodes) c.self.view_is ∙ c.requires.sized in
     let laid : IsLaidTo firms trades c.args.on.now (length firms) 0 c.lay_out.new.self.raised.items
     c.lay_out.new.self.lowered.items c.lay_out.new.self.own.items =
     subst (λ (n : ℕ). IsLaidTo firms trades c.args.on.now n 0 c.lay_out.new.self.raised.items
@@ -26,13 +26,13 @@ invariant_of-self-inside g c =
     let sized : length c.fill.new.self.items ≡ room_of (length trades + 1) = omega (arith, long, was, room) in
     let few = c.trades-trades.ensures.few in
     let count = c.trades-trades.ensures.count in (
-      subst (λ (n : ℕ). IsSound n (record {
+      subst (λ (n : ℕ). HasRoomForBlocks n (record {
         laid = c.trades-trades.result;
         raised = c.lay_out.new.self.raised.items;
         lowered = c.lay_out.new.self.lowered.items;
         own = c.lay_out.new.self.own.items;
       }) c.fill.new.self.items) (sym nodes_is)
-          (subst (λ (l : ℕ). IsSound (length trades + 1) (record {
+          (subst (λ (l : ℕ). HasRoomForBlocks (length trades + 1) (record {
             laid = l;
             raised = c.lay_out.new.self.raised.items;
             lowered = c.lay_out.new.self.lowered.items;
@@ -46,7 +46,7 @@ invariant_of-self-inside g c =
 
 pub returns-clause-without : goal.returns-clause-without
 returns-clause-without g c = record {
-  nodes = ap (λ (m : Blocks). m.nodes) c.self.view_is;
+  nodes = ap (λ (m : CostBlocks). m.nodes) c.self.view_is;
   none = (no_arcs _ _ (c.fill.ensures.items (λ y same. same))).none;
 }
 

@@ -1,6 +1,6 @@
 -- What shows the clauses of `Graph::place` of `src/graph.rt`.
 use Rattle.std.proofs.Common.{◌≡◌, ◌<◌, Some, None, length, subst, sym, arith}
-use Rattle.tn_graph.specs.Blocks.{Blocks, place_of}
+use Rattle.tn_graph.specs.Blocks.{CostBlocks, place_of}
 use Rattle.tn_graph.proofs.PlacedLemmas.{read_up, read_down, same_block, found_both, found_neither, found_to_null, found_from_null, place_fits, place_of_null}
 use Rattle.tn_graph.proofs.graph.Graph.place.Goals as goal
 
@@ -82,7 +82,7 @@ returns-then-from-to-clause-place c =
     c.index-from.ensures in
     let to = read_down _ _ _ c.self.inside.sound c.args.b c.in-true-true.is-1 c.index-to.result.now
     c.index-to.ensures in
-    subst (λ (m : Blocks). Some c.place.result ≡ place_of m.nodes m.places c.args.a c.args.b) c.self.view_is
+    subst (λ (m : CostBlocks). Some c.place.result ≡ place_of m.nodes m.places c.args.a c.args.b) c.self.view_is
     (found_both _ _ _ c.self.inside.sound c.args.a c.args.b c.place.result c.in-true-true.is-0 c.in-true-true.is-1 _ _
     from to c.if-from-to.true c.place.ensures.place)
 
@@ -90,7 +90,7 @@ pub returns-then-from-to-clause-inside : goal.returns-then-from-to-clause-inside
 returns-then-from-to-clause-inside c =
     let from = read_up _ _ _ c.self.inside.sound c.args.a c.in-true-true.is-0 c.index-from.result.now
     c.index-from.ensures in
-    subst (λ (m : Blocks). c.place.result < length m.cells) c.self.view_is
+    subst (λ (m : CostBlocks). c.place.result < length m.cells) c.self.view_is
     (place_fits _ _ _ c.self.inside.sound _ _ _ _ from c.place.ensures.inside)
 
 pub returns-else-from-to-clause-place : goal.returns-else-from-to-clause-place
@@ -99,7 +99,7 @@ returns-else-from-to-clause-place c =
     c.index-from.ensures in
     let to = read_down _ _ _ c.self.inside.sound c.args.b c.in-true-true.is-1 c.index-to.result.now
     c.index-to.ensures in
-    subst (λ (m : Blocks). None ≡ place_of m.nodes m.places c.args.a c.args.b) c.self.view_is
+    subst (λ (m : CostBlocks). None ≡ place_of m.nodes m.places c.args.a c.args.b) c.self.view_is
     (found_neither _ _ _ c.self.inside.sound c.args.a c.args.b c.in-true-true.is-0 c.in-true-true.is-1 _ _ from to
     c.if-from-to.false)
 
@@ -107,40 +107,40 @@ pub returns-in-true-false-clause-place : goal.returns-in-true-false-clause-place
 returns-in-true-false-clause-place c =
     let from = read_up _ _ _ c.self.inside.sound c.args.a c.in-true-false.is-0 c.index-from-in-true-false.result.now
     c.index-from-in-true-false.ensures in
-    subst (λ (m : Blocks). Some c.place-in-true-false.result ≡ place_of m.nodes m.places c.args.a c.args.b)
+    subst (λ (m : CostBlocks). Some c.place-in-true-false.result ≡ place_of m.nodes m.places c.args.a c.args.b)
     c.self.view_is
     (found_to_null _ _ _ c.self.inside.sound c.args.a c.args.b c.place-in-true-false.result c.in-true-false.is-0
-    c.in-true-false.is-1 (subst (λ (m : Blocks). c.args.b < m.nodes) (sym c.self.view_is) c.requires.to) _ from
+    c.in-true-false.is-1 (subst (λ (m : CostBlocks). c.args.b < m.nodes) (sym c.self.view_is) c.requires.to) _ from
     c.place-in-true-false.ensures.place)
 
 pub returns-in-true-false-clause-inside : goal.returns-in-true-false-clause-inside
 returns-in-true-false-clause-inside c =
     let from = read_up _ _ _ c.self.inside.sound c.args.a c.in-true-false.is-0 c.index-from-in-true-false.result.now
     c.index-from-in-true-false.ensures in
-    subst (λ (m : Blocks). c.place-in-true-false.result < length m.cells) c.self.view_is
+    subst (λ (m : CostBlocks). c.place-in-true-false.result < length m.cells) c.self.view_is
     (place_fits _ _ _ c.self.inside.sound _ _ _ _ from c.place-in-true-false.ensures.inside)
 
 pub returns-in-false-true-clause-place : goal.returns-in-false-true-clause-place
 returns-in-false-true-clause-place c =
     let to = read_down _ _ _ c.self.inside.sound c.args.b c.in-false-true.is-1 c.index-to-in-false-true.result.now
     c.index-to-in-false-true.ensures in
-    subst (λ (m : Blocks). Some c.place-in-false-true.result ≡ place_of m.nodes m.places c.args.a c.args.b)
+    subst (λ (m : CostBlocks). Some c.place-in-false-true.result ≡ place_of m.nodes m.places c.args.a c.args.b)
     c.self.view_is
     (found_from_null _ _ _ c.self.inside.sound c.args.a c.args.b c.place-in-false-true.result c.in-false-true.is-0
-    c.in-false-true.is-1 (subst (λ (m : Blocks). c.args.a < m.nodes) (sym c.self.view_is) c.requires.from) _ to
+    c.in-false-true.is-1 (subst (λ (m : CostBlocks). c.args.a < m.nodes) (sym c.self.view_is) c.requires.from) _ to
     c.place-in-false-true.ensures.place)
 
 pub returns-in-false-true-clause-inside : goal.returns-in-false-true-clause-inside
 returns-in-false-true-clause-inside c =
     let to = read_down _ _ _ c.self.inside.sound c.args.b c.in-false-true.is-1 c.index-to-in-false-true.result.now
     c.index-to-in-false-true.ensures in
-    subst (λ (m : Blocks). c.place-in-false-true.result < length m.cells) c.self.view_is
+    subst (λ (m : CostBlocks). c.place-in-false-true.result < length m.cells) c.self.view_is
     (place_fits _ _ _ c.self.inside.sound _ _ _ _ to c.place-in-false-true.ensures.inside)
 
 pub returns-in-false-false-clause-place : goal.returns-in-false-false-clause-place
 returns-in-false-false-clause-place c =
-    subst (λ (m : Blocks). None ≡ place_of m.nodes m.places c.args.a c.args.b) c.self.view_is
+    subst (λ (m : CostBlocks). None ≡ place_of m.nodes m.places c.args.a c.args.b) c.self.view_is
     (sym (place_of_null _ _ c.args.a c.args.b
-    (subst (λ (m : Blocks). c.args.a < m.nodes) (sym c.self.view_is) c.requires.from)
-    (subst (λ (m : Blocks). c.args.b < m.nodes) (sym c.self.view_is) c.requires.to) c.in-false-false.is-0
+    (subst (λ (m : CostBlocks). c.args.a < m.nodes) (sym c.self.view_is) c.requires.from)
+    (subst (λ (m : CostBlocks). c.args.b < m.nodes) (sym c.self.view_is) c.requires.to) c.in-false-false.is-0
     c.in-false-false.is-1))

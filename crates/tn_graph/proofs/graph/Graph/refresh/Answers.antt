@@ -6,8 +6,8 @@ use Rattle.std.proofs.lemmas.Option.{slice_get-map}
 use Rattle.tn_base.specs.Sets.{has, size}
 use Rattle.tn_base.specs.Walks.{is_admitted}
 use Rattle.tn_base.proofs.SetLemmas.{set_of_within}
-use Rattle.tn_plain_data.specs.Network.{own, part}
-use Rattle.tn_graph.specs.Blocks.{Blocks}
+use Rattle.tn_model.specs.Network.{own, part}
+use Rattle.tn_graph.specs.Blocks.{CostBlocks}
 use Rattle.tn_graph.specs.Reading.{IsRightFor, IsUnchanged, admitted_count, block_worths}
 use Rattle.tn_graph.proofs.AdmitLemmas.{own_admitted}
 use Rattle.tn_graph.proofs.LineLemmas.{arcs_counted}
@@ -55,7 +55,7 @@ loop-f-preserved g c =
     c.args.on.now k in
     elim c.if-has_changed.branch [
       | then-has_changed w ↦ record {
-        right = subst (λ (graph : Blocks). IsRightFor (map g.V.Valuation.firm c.args.market.now.firms)
+        right = subst (λ (graph : CostBlocks). IsRightFor (map g.V.Valuation.firm c.args.market.now.firms)
             c.args.market.now.trades c.args.on.now counts (done (c.loop-f.f + 1)) graph) (sym w.self-is)
             (right_more (map g.V.Valuation.firm c.args.market.now.firms) c.args.market.now.trades c.args.on.now counts
             (done c.loop-f.f) (done (c.loop-f.f + 1))
@@ -83,7 +83,7 @@ loop-f-preserved g c =
             (w.bundle_of-asked.ensures item.0 item.1) w.read.ensures.asked)));
       }
       | else-has_changed w ↦ record {
-        right = subst (λ (graph : Blocks). IsRightFor (map g.V.Valuation.firm c.args.market.now.firms)
+        right = subst (λ (graph : CostBlocks). IsRightFor (map g.V.Valuation.firm c.args.market.now.firms)
             c.args.market.now.trades c.args.on.now counts (done (c.loop-f.f + 1)) graph) (sym w.self-is)
             (right_same (map g.V.Valuation.firm c.args.market.now.firms) c.args.market.now.trades c.args.on.now counts
             (done c.loop-f.f) (done (c.loop-f.f + 1)) c.loop-f.self

@@ -3,7 +3,7 @@ use Rattle.std.proofs.Common.{arith, ap, subst, sym, ◌∙◌, ◌<◌, length,
 use Rattle.std.proofs.Math.ListN.{length-set}
 use Rattle.std.proofs.lemmas.List.{get_or_read}
 use Rattle.tn_graph.specs.declared.spot.Spot.{Spot}
-use Rattle.tn_graph.specs.Blocks.{Blocks, no_spot}
+use Rattle.tn_graph.specs.Blocks.{CostBlocks, no_spot}
 use Rattle.tn_graph.proofs.LayoutLemmas.{turned_is, turned_sound}
 use Rattle.tn_graph.proofs.graph.Graph.turn.Goals as goal
 
@@ -13,7 +13,7 @@ invariant_of-self-inside c =
     let raised_sized = sound.raised_sized in
     let lowered_sized = sound.lowered_sized in
     let inside : c.args.t < c.self.inside.nodes =
-    subst (λ (m : Blocks). c.args.t < m.nodes) (sym c.self.view_is) c.requires in
+    subst (λ (m : CostBlocks). c.args.t < m.nodes) (sym c.self.view_is) c.requires in
     let raised_long : c.args.t < length c.self.inside.places.raised.items = omega (arith, inside, raised_sized) in
     let lowered_long : c.args.t < length c.self.inside.places.lowered.items = omega (arith, inside, lowered_sized) in
     let turned = turned_is (record {

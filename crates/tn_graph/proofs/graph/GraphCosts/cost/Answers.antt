@@ -5,7 +5,7 @@ use Rattle.std.proofs.lemmas.Int.{to_z-of_z}
 use Rattle.std.proofs.lemmas.List.{get_or_read}
 use mir.Syntax.{w64}
 use mir.Val.{SFits}
-use Rattle.tn_graph.specs.Blocks.{Blocks, cost_at, place_of}
+use Rattle.tn_graph.specs.Blocks.{CostBlocks, cost_in_cell, place_of}
 use Rattle.tn_graph.proofs.CellLemmas.{arc_at, arc_none}
 use Rattle.tn_graph.proofs.graph.GraphCosts.cost.Goals as goal
 
@@ -19,9 +19,9 @@ returns-in-Some c =
     subst (λ (o : Option ℕ). IfSome o (λ place. place < length c.args.self.now.cells)) c.in-Some.is
     c.place.ensures.inside in
     let there = get_or_read c.self.inside.cells.items _ _
-    (subst (λ (m : Blocks). c.in-Some.place < length m.cells) (sym seen) inside) c.index.ensures (pos (2 ^ 63)) in
-    c.unpacked.ensures ∙ ap cost_at (to_z-of_z w64 c.index.result.now number) ∙ ap cost_at there
-    ∙ ap (λ (m : Blocks). cost_at (get_or m.cells c.in-Some.place (pos (2 ^ 63)))) seen
+    (subst (λ (m : CostBlocks). c.in-Some.place < length m.cells) (sym seen) inside) c.index.ensures (pos (2 ^ 63)) in
+    c.unpacked.ensures ∙ ap cost_in_cell (to_z-of_z w64 c.index.result.now number) ∙ ap cost_in_cell there
+    ∙ ap (λ (m : CostBlocks). cost_in_cell (get_or m.cells c.in-Some.place (pos (2 ^ 63)))) seen
     ∙ sym (arc_at c.args.self.now c.args.a c.args.b c.in-Some.place is)
 
 pub returns-in-None : goal.returns-in-None

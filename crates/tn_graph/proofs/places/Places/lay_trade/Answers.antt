@@ -3,7 +3,7 @@ use Rattle.std.proofs.Common.{arith, ap, sym, ◌∙◌, ◌≡◌, ◌<◌, ◌
 use Rattle.std.proofs.lemmas.Option.{slice_get-map}
 use Rattle.std.proofs.lemmas.List.{length-map}
 use Rattle.tn_base.specs.Sets.{has}
-use Rattle.tn_plain_data.specs.Network.{own}
+use Rattle.tn_model.specs.Network.{own}
 use Rattle.tn_graph.specs.declared.spot.Spot.{Spot}
 use Rattle.tn_graph.specs.Layout.{end_of, own_before}
 use Rattle.tn_graph.proofs.EndLemmas.{end_here}

@@ -4,7 +4,7 @@ use Rattle.std.proofs.lemmas.Option.{slice_get-map}
 use Rattle.std.proofs.lemmas.Int.{to_z-of_z}
 use mir.Syntax.{w128}
 use mir.Val.{SFits}
-use Rattle.tn_plain_data.specs.Network.{part}
+use Rattle.tn_model.specs.Network.{part}
 use Rattle.tn_graph.specs.Reading.{IsStand}
 use Rattle.tn_graph.proofs.stand.Stand.new.Goals as goal
 

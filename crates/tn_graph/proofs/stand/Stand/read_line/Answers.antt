@@ -1,7 +1,7 @@
 -- What shows the clauses of `Stand::read_line` of `src/reading.rt`.
 use Rattle.std.proofs.Common.{sym, ◌∙◌, ◌≡◌, ◌<◌, ◌+◌, ◌^◌, ℕ, ap, ap₂, length, map, subst, arith, lit<}
 use Rattle.tn_base.specs.Sets.{has}
-use Rattle.tn_law.specs.Places.{move}
+use Rattle.tn_firm_laws.specs.Places.{move}
 use Rattle.tn_market.specs.ArcPlaces.{AreArcPlaces}
 use Rattle.tn_market.specs.Valued.{HasToggledWorths}
 use Rattle.tn_graph.specs.Layout.{IsLaidOut}

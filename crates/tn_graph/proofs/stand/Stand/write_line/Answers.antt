@@ -1,9 +1,9 @@
 -- What shows the clauses of `Stand::write_line` of `src/reading.rt`.
 use Rattle.std.proofs.Common.{sym, ◌∙◌, ◌≡◌, ◌+◌, ℕ, true, false, map, length, subst, ap, ap₂, arith, lit<}
 use Rattle.tn_base.specs.Sets.{has}
-use Rattle.tn_law.specs.Places.{move}
+use Rattle.tn_firm_laws.specs.Places.{move}
 use Rattle.tn_market.specs.ArcPlaces.{AreArcPlaces}
-use Rattle.tn_graph.specs.Blocks.{Blocks}
+use Rattle.tn_graph.specs.Blocks.{CostBlocks}
 use Rattle.tn_graph.specs.Layout.{IsLaidOut}
 use Rattle.tn_graph.specs.Reading.{IsLineRead, HasArc, raised_place, lowered_place}
 use Rattle.tn_graph.proofs.LineLemmas.{line_start, line_read, line_skipped, line_worth}
@@ -44,7 +44,7 @@ loop-other-preserved g c = elim c.if-has.branch [
       c.args.self.now.market.now.trades c.args.self.now.on.now
       c.args.self.now.f c.args.self.now.count w.ends_of-i.result.0 j w.write_arc.new.graph) w.ends_of-i.ensures.lowered
       w.write_arc.ensures.arc) in
-      subst (λ (graph : Blocks). IsLineRead (map g.V.Valuation.firm c.args.self.now.market.now.firms)
+      subst (λ (graph : CostBlocks). IsLineRead (map g.V.Valuation.firm c.args.self.now.market.now.firms)
       c.args.self.now.market.now.trades c.args.self.now.on.now c.args.self.now.f
       c.args.self.now.count c.args.rises c.args.k c.args.others c.args.graph.now (c.loop-other.other + 1) graph)
       (sym w.graph-is)
@@ -52,7 +52,7 @@ loop-other-preserved g c = elim c.if-has.branch [
       w.write_arc.ensures.improved arc)
   | else-has w ↦
       let absent : has c.args.others c.loop-other.other ≡ false = sym c.has.ensures ∙ w.if-has.false in
-      subst (λ (graph : Blocks). IsLineRead (map g.V.Valuation.firm c.args.self.now.market.now.firms)
+      subst (λ (graph : CostBlocks). IsLineRead (map g.V.Valuation.firm c.args.self.now.market.now.firms)
       c.args.self.now.market.now.trades c.args.self.now.on.now c.args.self.now.f
       c.args.self.now.count c.args.rises c.args.k c.args.others c.args.graph.now (c.loop-other.other + 1) graph)
       (sym w.graph-is)

@@ -1,7 +1,7 @@
 -- What shows the clauses of `Fixed::unraised` of `src/fixed.rt`.
 use Rattle.std.proofs.Common.{◌∙◌, ◌*◌, sym, ap₂}
-use Rattle.tn_plain_data.specs.Limits.{most_over}
-use Rattle.tn_outcome.specs.Fixed.{lesser}
+use Rattle.tn_model.specs.Limits.{most_over}
+use Rattle.tn_outcome_laws.specs.Fixed.{lesser}
 use Rattle.tn_judge.specs.FixingLemmas.{unraised_small}
 use Rattle.tn_judge.specs.Limits.{most_exchange_cost}
 use Rattle.tn_judge.proofs.CompletionLemmas.{small_if}

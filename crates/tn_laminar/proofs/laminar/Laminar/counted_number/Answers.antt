@@ -10,6 +10,6 @@ use Rattle.tn_laminar.proofs.laminar.Laminar.counted_number.Goals as goal
 
 pub returns-clause-small : goal.returns-clause-small
 returns-clause-small c =
-    let fit : SFits w128 c.counted.result = search rules in
-    simp to_z-of_z (subst (λ (z : ℤ). IsAtMost z most_counted) (sym c.counted.ensures)
+    let fit : SFits w128 c.counted_or_unlisted.result = search rules in
+    simp to_z-of_z (subst (λ (z : ℤ). IsAtMost z most_counted) (sym c.counted_or_unlisted.ensures)
     (counted_small c.number.result c.number.ensures.small))

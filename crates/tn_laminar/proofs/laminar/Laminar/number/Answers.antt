@@ -5,7 +5,7 @@ use Rattle.std.proofs.lemmas.Option.{slice_get_read}
 use Rattle.std.proofs.lemmas.List.{length-map}
 use mir.Syntax.{w32}
 use mir.Val.{SFits}
-use Rattle.tn_law.specs.Nested.{listed_from}
+use Rattle.tn_firm_laws.specs.Nested.{listed_from}
 use Rattle.tn_laminar.specs.Masked.{masks_of}
 use Rattle.tn_laminar.specs.WithinLemmas.{all_at}
 use Rattle.tn_laminar.specs.Sum.{HasNumbersWithin}

@@ -7,8 +7,8 @@ use mir.Syntax.{w32, w128}
 use mir.Val.{SFits}
 use Rattle.tn_laminar.specs.declared.set.LaminarSet.{LaminarSet}
 use Rattle.tn_laminar.specs.Masked.{masks_of}
-use Rattle.tn_law.specs.Nested.{listed_from}
-use Rattle.tn_laminar.specs.Rows.{IsSlope, counted}
+use Rattle.tn_firm_laws.specs.Nested.{listed_from}
+use Rattle.tn_laminar.specs.Rows.{IsSlope, counted_or_unlisted}
 use Rattle.tn_laminar.proofs.RowLemmas.{slope_is}
 use Rattle.tn_laminar.proofs.laminar.Laminar.slope.Goals as goal
 
@@ -35,7 +35,7 @@ returns-clause-slope c = λ set is.
     omega (arith, ints, a.low, a.high, b.low, b.high) in
     let down : SFits w128 (c.counted_at-2.result -ℤ c.counted_at-here.result) =
     omega (arith, ints, a.low, a.high, d.low, d.high) in
-    let number_at : ℤ → ℤ = λ z. counted (listed_from c.index-set.result.now.low c.index-set.result.now.numbers z) in
+    let number_at : ℤ → ℤ = λ z. counted_or_unlisted (listed_from c.index-set.result.now.low c.index-set.result.now.numbers z) in
     let here_is = (simp to_z-of_z at c.counted_at-here.ensures.number) ∙ ap number_at c.net-count.ensures.count in
     let above_is = (simp to_z-of_z at c.counted_at.ensures.number)
     ∙ ap (λ (z : ℤ). number_at (z +ℤ pos 1)) c.net-count.ensures.count in

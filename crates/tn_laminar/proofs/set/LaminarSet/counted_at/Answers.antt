@@ -11,7 +11,7 @@ use Rattle.tn_laminar.proofs.set.LaminarSet.counted_at.Goals as goal
 
 pub returns-clause-small : goal.returns-clause-small
 returns-clause-small c =
-    let fit : SFits w128 c.counted.result = search rules in
+    let fit : SFits w128 c.counted_or_unlisted.result = search rules in
     let small = number_small c.args.self.now _ c.number_at.result c.requires.numbered c.number_at.ensures in
-    simp to_z-of_z (subst (λ (z : ℤ). IsAtMost z most_counted) (sym c.counted.ensures)
+    simp to_z-of_z (subst (λ (z : ℤ). IsAtMost z most_counted) (sym c.counted_or_unlisted.ensures)
     (counted_small c.number_at.result small))

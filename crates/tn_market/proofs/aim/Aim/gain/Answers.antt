@@ -1,7 +1,7 @@
 -- What shows the clauses of `Aim::gain` of `src/aim.rt`.
 use Rattle.std.proofs.Common.{arith}
 use Rattle.std.proofs.lemmas.Int.{ints}
-use Rattle.tn_plain_data.specs.Prices.{price_at}
+use Rattle.tn_model.specs.Prices.{price_at}
 use Rattle.tn_market.proofs.AscentLemmas.{sum_over-next}
 use Rattle.tn_market.proofs.aim.Aim.gain.Goals as goal
 

@@ -3,7 +3,7 @@ use Rattle.std.proofs.Common.{arith, rules, ◌≡◌, ◌<◌, length, ap, sym,
 use Rattle.std.proofs.lemmas.Option.{same_Some}
 use Rattle.tn_base.specs.Sets.{has, set_of}
 use Rattle.tn_base.specs.Firm.{Firm}
-use Rattle.tn_plain_data.specs.Network.{own, part}
+use Rattle.tn_model.specs.Network.{own, part}
 use Rattle.tn_market.proofs.MarketLemmas.{own_of_traded, own_element, part_is}
 use Rattle.tn_market.proofs.market.Market.bundle_of.Goals as goal
 

@@ -1,7 +1,7 @@
 -- What shows the clauses of `Market::new` of `src/market.rt`.
 use Rattle.std.proofs.Common.{arith, ◌≡◌, ◌+◌, length, ap, sym, ◌∙◌, subst, List, ℕ, map, slice_get, Some, ◌∷◌, [], Vec, Global}
 use Rattle.std.proofs.lemmas.List.{length-append, length-map}
-use Rattle.tn_plain_data.specs.declared.ends.Ends.{Ends}
+use Rattle.tn_model.specs.declared.ends.Ends.{Ends}
 use Rattle.tn_market.specs.Traded.{HaveOwn, HasOnePlace, AreOwn}
 use Rattle.tn_market.proofs.MarketLemmas.{one_place, one_listed, read_from, listed_count}
 use Rattle.tn_market.proofs.market.Market.new.Goals as goal

@@ -2,13 +2,13 @@
 use Rattle.std.proofs.Common.{arith}
 use Rattle.std.proofs.lemmas.Int.{ints}
 use Rattle.tn_base.specs.Firm.{payments}
-use Rattle.tn_middle.specs.Pairs.{number_at}
+use Rattle.tn_middle.specs.Pairs.{own_number}
 use Rattle.tn_middle.proofs.BalanceLemmas.{sum_over-next}
 use Rattle.tn_middle.proofs.middle.Middle.balance.Goals as goal
 
 pub loop-k-preserved : goal.loop-k-preserved
 loop-k-preserved c =
-    let next = sum_over-next (payments c.args.self.now.buys (number_at c.args.self.now.numbers.items)) c.loop-k.k
+    let next = sum_over-next (payments c.args.self.now.buys (own_number c.args.self.now.numbers.items)) c.loop-k.k
     c.args.x in
     let sum = c.loop-k.invariant.sum in
     let low = c.loop-k.invariant.small.low in

@@ -5,7 +5,7 @@ use Rattle.std.proofs.lemmas.Int.{ints, to_z-of_z}
 use Rattle.tn_base.specs.Arcs.{IsAtMost}
 use Rattle.tn_cycle.specs.Answers.{label_in}
 use Rattle.tn_cycle.specs.Widths.{most_read}
-use Rattle.tn_plain_data.specs.Prices.{price_at}
+use Rattle.tn_model.specs.Prices.{price_at}
 use Rattle.tn_session.specs.Standing.{Standing}
 use Rattle.tn_session.proofs.StandingLemmas.{numbers_small, price-is}
 use Rattle.tn_session.proofs.session.Session.price.Goals as goal

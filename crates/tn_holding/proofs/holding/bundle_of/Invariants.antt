@@ -1,7 +1,0 @@
--- What the loops of `bundle_of` of `src/holding.rt` keep.
-use Rattle.std.proofs.Common.{◌≡◌}
-use Rattle.tn_plain_data.specs.Network.{part}
-use Rattle.tn_holding.proofs.holding.bundle_of.Given as goal
-
-abbrev pub invariant-loop-k : goal.invariant-loop-k
-invariant-loop-k g l = l.bundle ≡ part l.ends l.f l.k l.on

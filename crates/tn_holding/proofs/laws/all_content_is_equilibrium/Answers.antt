@@ -1,6 +1,0 @@
--- What shows the clauses of `all_content_is_equilibrium` of `src/laws.rt`.
-use Rattle.tn_holding.proofs.ContentLemmas.{content_is_equilibrium}
-use Rattle.tn_holding.proofs.laws.all_content_is_equilibrium.Goals as goal
-
-pub returns : goal.returns
-returns c = content_is_equilibrium

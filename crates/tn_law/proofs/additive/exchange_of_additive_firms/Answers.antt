@@ -1,6 +1,0 @@
--- What shows the clauses of `exchange_of_additive_firms` of `src/additive.rt`.
-use Rattle.tn_law.proofs.AdditiveLemmas.{meets-additive}
-use Rattle.tn_law.proofs.additive.exchange_of_additive_firms.Goals as goal
-
-pub returns : goal.returns
-returns c = meets-additive

@@ -1,6 +1,0 @@
--- What shows the clauses of `exchange_among` of `src/kept.rt`.
-use Rattle.tn_law.proofs.KeepLemmas.{meets-among}
-use Rattle.tn_law.proofs.kept.exchange_among.Goals as goal
-
-pub returns : goal.returns
-returns c = meets-among

@@ -1,6 +1,0 @@
--- What shows the clauses of `numbers_keep_arcs` of `src/labels.rt`.
-use Rattle.tn_law.proofs.LabelLemmas.{numbers_keep_arcs}
-use Rattle.tn_law.proofs.labels.numbers_keep_arcs.Goals as goal
-
-pub returns : goal.returns
-returns c = numbers_keep_arcs

@@ -1,6 +1,0 @@
--- What shows the clauses of `ordered_shifts_keep_best` of `src/ordered.rt`.
-use Rattle.tn_law.proofs.OrderedLemmas.{ordered_keep_best}
-use Rattle.tn_law.proofs.ordered.ordered_shifts_keep_best.Goals as goal
-
-pub returns : goal.returns
-returns c = ordered_keep_best

@@ -1,6 +1,0 @@
--- What shows the clauses of `bundles_have_places` of `src/places.rt`.
-use Rattle.tn_law.proofs.PlaceLemmas.{places}
-use Rattle.tn_law.proofs.places.bundles_have_places.Goals as goal
-
-pub returns : goal.returns
-returns c = places

@@ -1,6 +1,0 @@
--- What shows the clauses of `price_bounds_are_distances` of `src/bounds.rt`.
-use Rattle.tn_network.proofs.BoundLemmas.{price_bounds_are_distances}
-use Rattle.tn_network.proofs.bounds.price_bounds_are_distances.Goals as goal
-
-pub returns : goal.returns
-returns c = price_bounds_are_distances

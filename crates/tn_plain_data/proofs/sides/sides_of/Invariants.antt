@@ -1,7 +1,0 @@
--- What the loops of `sides_of` of `src/sides.rt` keep.
-use Rattle.std.proofs.Common.{◌≡◌, take}
-use Rattle.tn_plain_data.specs.InOrder.{sides_of}
-use Rattle.tn_plain_data.proofs.sides.sides_of.Given as goal
-
-abbrev pub invariant-loop-trade : goal.invariant-loop-trade
-invariant-loop-trade l = l.sides.items ≡ sides_of (take l.trade-index l.trades) l.f

@@ -1,0 +1,5 @@
+-- The files of definitions of this crate.
+pub mod Words
+pub mod Faults
+pub mod ClaimLimits
+pub mod Edits

@@ -1,0 +1,24 @@
+//! What is said to the program and by it: answers, claims and reasons against them, faults and places in a document,
+//! edits of a session and the states after them. The definitions stand in `specs/`: words, numbers of faults, limits of
+//! claims and edits.
+#![tactic(auto)]
+
+mod claim;
+mod fault;
+mod holding;
+mod lists;
+mod part;
+mod place;
+mod reason;
+mod said;
+mod session;
+
+pub use claim::Claim;
+pub use fault::FaultKind;
+pub use holding::Holding;
+pub use lists::{Edits, Holdings, Numbers, Parts, Place, States};
+pub use part::Part;
+pub use place::{PlaceStep, Word};
+pub use reason::Reason;
+pub use said::{Fault, Page, Said, Shown, Topic};
+pub use session::{Edit, State};

@@ -1,0 +1,21 @@
+//! Lists of what is said.
+
+use crate::holding::Holding;
+use crate::part::Part;
+use crate::place::PlaceStep;
+use crate::session::{Edit, State};
+use tn_model::{Lent, Listed};
+
+/// The way from the top of a document to a value in it.
+pub type Place = Listed<PlaceStep>;
+/// The parts of a plan: weights over a denominator that is said beside them.
+pub type Parts = Listed<Part>;
+/// Numbers of cases.
+pub type Numbers = Listed<u32>;
+
+/// What each firm has in an arrangement, by firm number.
+pub type Holdings = Lent<Holding>;
+/// Changes of the admitted trades and of the firms that are there, in the order in which they are made.
+pub type Edits = Lent<Edit>;
+/// An equilibrium after each of some changes, in order.
+pub type States = Lent<State>;

@@ -1,6 +1,0 @@
--- What shows the clauses of `claim_named` of `src/claims.rt`.
-use Rattle.tn_shape.proofs.WordLemmas.{found_value}
-use Rattle.tn_shape.proofs.claims.claim_named.Goals as goal
-
-pub returns : goal.returns
-returns c = simp (found_value, c.value_of_word.ensures)
