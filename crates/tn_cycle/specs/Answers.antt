@@ -1,10 +1,12 @@
 -- What the searches answer.
 use Rattle.std.specs.Prelude.{◌≡◌, ℕ, ◌+◌, ◌-◌, ◌*◌, ◌<◌, ◌≤◌, ◌⊎◌, ℤ, pos, neg_ℤ, ◌≤ℤ◌, ◌<ℤ◌, List, [], ◌∷◌, ◌++◌, length, All, Option, Some, None, slice_index_or, unwrap_or, Bool, true, false}
 use Rattle.tn_base.specs.Arcs.{AreSmall, IsAtMost}
-use Rattle.tn_base.specs.Walks.{AreDifferent, Avoids, CyclesCostAtLeast, HasNoNegativeCycle, IsCycle, IsLeastCycle, KeepsArcs, IsLeastWalk, IsUnreached}
+use Rattle.tn_base.specs.Walks.{AreDifferent, Avoids, CyclesCostAtLeast, HasNoNegativeCycle, IsCycle, IsLeastCycle, KeepsArcs, IsLeastWalk, IsUnreached, is_admitted, is_looked_at}
 use Rattle.tn_cycle.specs.declared.cell.Cell.{Cell}
 use Rattle.tn_cycle.specs.declared.answer.Path.{Path}
 use Rattle.tn_cycle.specs.declared.answer.Path.TheVariants as path
+use Rattle.tn_cycle.specs.declared.kept_cycles.Cycles.{Cycles}
+use Rattle.tn_cycle.specs.declared.kept_cycles.Cycles.TheVariants as cycles
 use Rattle.tn_cycle.specs.declared.answer.Labels.{Labels}
 use Rattle.tn_cycle.specs.declared.answer.Labels.TheVariants.{Feasible, Negative}
 use Rattle.tn_cycle.specs.Graphs.{turned}
@@ -35,6 +37,16 @@ pub record IsLeastFound (arc : ℕ → ℕ → Option ℤ) (node : ℕ) (listed 
 abbrev pub AnswersLeast : (ℕ → ℕ → Option ℤ) → ℕ → List ℕ → Path → Type 0
 AnswersLeast arc node listed path.None = IsUnreached arc node node × (listed ≡ [])
 AnswersLeast arc node listed (path.Cycle cost count) = IsLeastFound arc node listed cost count
+
+-- of the cycles that are sought: a least one that is negative, or a least one whatever it costs
+abbrev pub AnswersThrough : Cycles → (ℕ → ℕ → Option ℤ) → ℕ → List ℕ → Path → Type 0
+AnswersThrough cycles.Negative = AnswersCycle
+AnswersThrough cycles.All = AnswersLeast
+
+-- the nodes with labels before that search: where negative cycles are sought, the trade's own isn't known yet
+abbrev pub is_labelled : Cycles → ℕ → ℕ → ℕ → ℕ → Bool
+is_labelled cycles.Negative null node allowed = is_admitted null allowed
+is_labelled cycles.All null node allowed = is_looked_at null node allowed
 
 -- what an answer costs, 0 where there is none
 abbrev pub cost_of : Path → ℤ

@@ -9,7 +9,7 @@ use crate::answer::{Labels, Path};
 use crate::cell::Cell;
 use crate::graphs::{Admitted, Looked, Turned};
 use crate::grown::grow_labels;
-use crate::kept_cycles::{least_kept, negative_kept, relabel_all, relabel_among};
+use crate::kept_cycles::{Cycles, cycle_kept, relabel_all, relabel_among};
 use crate::read::list_walk;
 use crate::walks::{find_walks, sign};
 use std::alloc::Global;
@@ -63,7 +63,7 @@ impl Model for Finder {
 
 impl Finder {
     ghost use Rattle.tn_cycle.specs.Reading.{ListsNoWalks, ReadsWalks, nothing};
-    ghost use Rattle.tn_cycle.specs.Answers.{AnswersCycle, AnswersLabels, AnswersLeast, AreLabels, AreNear, LeadsAlong, LeadsLeast, cost_of, distance_in, label_in, walk_in};
+    ghost use Rattle.tn_cycle.specs.Answers.{AnswersCycle, AnswersLabels, AnswersLeast, AnswersThrough, AreLabels, AreNear, LeadsAlong, LeadsLeast, cost_of, distance_in, is_labelled, label_in, walk_in};
 
     /// A finder for graphs of so many nodes, at least 1 and at most 2,049. Nothing may be read yet. It takes all memory
     /// that the searches need, and refuses where that isn't there.
@@ -144,6 +144,51 @@ impl Finder {
         self.labelled = self.nodes;
     }
 
+    /// Finds a least cycle through a trade, of those that are sought, on the admitted trades, the null node and that
+    /// trade. There are at most `64 * W` trades.
+    fn cycle_through<C: Costs, const W: usize>(
+        &mut self,
+        costs: &C,
+        node: u32,
+        admitted: &TradeSet<W>,
+        cycles: Cycles,
+    ) -> Path
+        requires sized { C.node_count costs.now ≡ self.old.nodes }
+        requires wide { self.old.nodes ≤ 64 * W + 1 }
+        requires trade { node + 1 < self.old.nodes }
+        requires labelled { length self.old.labels ≡ self.old.nodes }
+        requires near { AreNear most_label self.old.labels }
+        requires keeps { KeepsArcs (arcs_among (is_labelled cycles (self.old.nodes - 1) node admitted.now)
+            (C.arc costs.now)) (label_in self.old.labels) }
+        ensures answer { AnswersThrough cycles (arcs_among (is_looked_at (self.old.nodes - 1) node admitted.now)
+            (C.arc costs.now)) node self.new.listed result }
+        ensures labelled { length self.new.labels ≡ self.old.nodes }
+        ensures keeps { KeepsArcsEntering (arcs_among (is_looked_at (self.old.nodes - 1) node admitted.now)
+            (C.arc costs.now)) node (label_in self.new.labels node +ℤ cost_of result) (label_in self.new.labels) }
+        ensures near { (reach : ℕ) → AreNear reach self.old.labels
+            → AreNear (reach + label_step self.old.nodes) self.new.labels }
+        ensures rest { ListsNoWalks self.old.nodes self.new }
+    {
+        self.reached = 0;
+        let null = self.nodes - 1;
+        let among = Admitted {
+            costs,
+            null,
+            admitted,
+        };
+        let found = cycle_kept(
+            &Looked { among, node },
+            cycles,
+            &mut self.labels,
+            &mut self.waits,
+            &mut self.row,
+            &mut self.path,
+            &mut self.places,
+        );
+        self.count = found.arcs();
+        found
+    }
+
     /// Looks for a negative cycle through a trade that isn't admitted yet, on the admitted trades, the null node and
     /// that trade, over labels that keep the arcs among the admitted trades and the null node. A cycle that it answers
     /// is of least cost among the closed walks that meet the trade at their ends alone, has the fewest arcs among those
@@ -173,23 +218,7 @@ impl Finder {
             → AreNear (reach + label_step self.old.nodes) self.new.labels }
         ensures rest { ListsNoWalks self.old.nodes self.new }
     {
-        self.reached = 0;
-        let null = self.nodes - 1;
-        let among = Admitted {
-            costs,
-            null,
-            admitted,
-        };
-        let found = negative_kept(
-            &Looked { among, node },
-            &mut self.labels,
-            &mut self.waits,
-            &mut self.row,
-            &mut self.path,
-            &mut self.places,
-        );
-        self.count = found.arcs();
-        found
+        self.cycle_through(costs, node, admitted, Cycles::Negative)
     }
 
     /// Finds a least cycle through a node, whatever it costs, on the admitted trades, the null node and that node, over
@@ -217,23 +246,7 @@ impl Finder {
             → AreNear (reach + label_step self.old.nodes) self.new.labels }
         ensures rest { ListsNoWalks self.old.nodes self.new }
     {
-        self.reached = 0;
-        let null = self.nodes - 1;
-        let among = Admitted {
-            costs,
-            null,
-            admitted,
-        };
-        let found = least_kept(
-            &Looked { among, node },
-            &mut self.labels,
-            &mut self.waits,
-            &mut self.row,
-            &mut self.path,
-            &mut self.places,
-        );
-        self.count = found.arcs();
-        found
+        self.cycle_through(costs, node, admitted, Cycles::All)
     }
 
     /// Gives each node the label that `labels` would give on the admitted trades and the null node: at most 0, and at

@@ -5,7 +5,7 @@ ghost use Rattle.std.specs.Option.{ForSome};
 ghost use Rattle.tn_base.specs.Arcs.{IsAtMost};
 ghost use Rattle.tn_base.specs.Walks.{KeepsArcs, KeepsArcsEntering, arcs_among, is_admitted, is_looked_at};
 ghost use Rattle.tn_base.specs.Widths.{most_cost};
-ghost use Rattle.tn_cycle.specs.Answers.{AnswersCycle, AnswersLeast, AreLabels, AreNear, arc_count, cost_of, label_in};
+ghost use Rattle.tn_cycle.specs.Answers.{AnswersCycle, AnswersLeast, AnswersThrough, AreLabels, AreNear, arc_count, cost_of, is_labelled, label_in};
 ghost use Rattle.tn_cycle.specs.Cells.{HasRoom, cell_at};
 ghost use Rattle.tn_cycle.specs.Kept.{AreRaised, IsCycleRead, IsLifted, IsLiftedBy, IsRaised, KeepsArcsAvoiding, KeepsArcsOff, flag_at, negated_if};
 ghost use Rattle.tn_cycle.specs.Reading.{IsListable};
@@ -18,6 +18,15 @@ use crate::kept::{Sought, is_capped, search_kept};
 use crate::labels::{lowest_cost, write_labels};
 use crate::read::list_way;
 use tn_base::Costs;
+
+/// Which cycles through a node are sought.
+#[derive(Clone, Copy)]
+pub enum Cycles {
+    /// Those of negative cost. The node's label isn't known yet.
+    Negative,
+    /// All, whatever they cost. The node's label is kept too.
+    All,
+}
 
 /// The walk of a node to itself, where it has one that costs less than the cap. Its nodes then stand at the front of
 /// `path`.
@@ -288,45 +297,10 @@ pub(crate) fn find_added<C: Costs>(
     }
 }
 
-/// Finds a least cycle through a node whose label isn't known yet, where one is negative. Its nodes then stand at the
-/// front of `path`.
-pub(crate) fn negative_kept<C: Costs, const W: usize>(
+/// Finds a least cycle through a node, of those that are sought. Its nodes then stand at the front of `path`.
+pub(crate) fn cycle_kept<C: Costs, const W: usize>(
     looked: &Looked<'_, C, W>,
-    labels: &mut [i128],
-    waits: &mut [bool],
-    row: &mut [Cell],
-    path: &mut [u32],
-    places: &mut [u32],
-) -> Path
-    requires labels_sized { length labels.old ≡ looked.now.among.null + 1 }
-    requires sized { length labels.old ≤ length row.old }
-    requires waits_sized { length labels.old ≤ length waits.old }
-    requires path_sized { length labels.old + 1 ≤ length path.old }
-    requires spaced { length row.old ≤ length places.old }
-    requires short { length path.old ≤ 2 ^ 31 }
-    requires few { length labels.old ≤ most_graph_nodes }
-    requires trade { looked.now.node < looked.now.among.null }
-    requires near { AreNear most_label labels.old }
-    requires keeps { KeepsArcs (arcs_among (is_admitted looked.now.among.null looked.now.among.admitted.now)
-        (C.arc looked.now.among.costs.now)) (label_in labels.old) }
-    ensures answer { AnswersCycle
-        (arcs_among (is_looked_at looked.now.among.null looked.now.node looked.now.among.admitted.now)
-        (C.arc looked.now.among.costs.now)) looked.now.node (take (arc_count result) path.new) result }
-    ensures few_arcs { arc_count result ≤ length labels.old }
-    ensures keeps { KeepsArcsEntering
-        (arcs_among (is_looked_at looked.now.among.null looked.now.node looked.now.among.admitted.now)
-        (C.arc looked.now.among.costs.now)) looked.now.node (label_in labels.new looked.now.node +ℤ cost_of result)
-        (label_in labels.new) }
-    ensures near { (reach : ℕ) → AreNear reach labels.old
-        → AreNear (reach + label_step (length labels.old)) labels.new }
-{
-    looked.mark_others(waits);
-    find_added(looked, looked.node, labels, waits, row, path, places)
-}
-
-/// Finds a least cycle through a node whose label is kept too. Its nodes then stand at the front of `path`.
-pub(crate) fn least_kept<C: Costs, const W: usize>(
-    looked: &Looked<'_, C, W>,
+    cycles: Cycles,
     labels: &mut [i128],
     waits: &mut [bool],
     row: &mut [Cell],
@@ -343,9 +317,9 @@ pub(crate) fn least_kept<C: Costs, const W: usize>(
     requires trade { looked.now.node < looked.now.among.null }
     requires near { AreNear most_label labels.old }
     requires keeps { KeepsArcs
-        (arcs_among (is_looked_at looked.now.among.null looked.now.node looked.now.among.admitted.now)
+        (arcs_among (is_labelled cycles looked.now.among.null looked.now.node looked.now.among.admitted.now)
         (C.arc looked.now.among.costs.now)) (label_in labels.old) }
-    ensures answer { AnswersLeast
+    ensures answer { AnswersThrough cycles
         (arcs_among (is_looked_at looked.now.among.null looked.now.node looked.now.among.admitted.now)
         (C.arc looked.now.among.costs.now)) looked.now.node (take (arc_count result) path.new) result }
     ensures few_arcs { arc_count result ≤ length labels.old }
@@ -357,7 +331,10 @@ pub(crate) fn least_kept<C: Costs, const W: usize>(
         → AreNear (reach + label_step (length labels.old)) labels.new }
 {
     looked.mark_others(waits);
-    find_kept(looked, looked.node, None, labels, waits, row, path, places)
+    match cycles {
+        Cycles::Negative => find_added(looked, looked.node, labels, waits, row, path, places),
+        Cycles::All => find_kept(looked, looked.node, None, labels, waits, row, path, places),
+    }
 }
 
 /// Labels at most 0 that keep the arcs, by labels that do. The nodes that arcs lead between are marked by `waits`: no

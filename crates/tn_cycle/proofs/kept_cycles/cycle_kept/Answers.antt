@@ -1,10 +1,10 @@
--- What shows the clauses of `least_kept` of `src/kept_cycles.rt`.
+-- What shows the clauses of `cycle_kept` of `src/kept_cycles.rt`.
 use Rattle.std.proofs.Common.{arith}
 use Rattle.std.proofs.lemmas.Int.{ints}
-use Rattle.tn_cycle.proofs.kept_cycles.least_kept.Goals as goal
+use Rattle.tn_cycle.proofs.kept_cycles.cycle_kept.Goals as goal
 
-pub returns-clause-near : goal.returns-clause-near
-returns-clause-near g c reach near v inside =
+pub returns-in-All-clause-near : goal.returns-in-All-clause-near
+returns-in-All-clause-near g c reach near v inside =
     let far = c.find_kept.ensures.near reach near v inside in
     let sized = c.args.looked.now.among.last in
     record {
