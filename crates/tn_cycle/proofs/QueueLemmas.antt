@@ -337,6 +337,10 @@ key_small labels row v cost is has near =
       high = omega (arith, ints, own, small.high, near.high);
     }
 
+-- a list of which two places were written is as long as before
+pub sized_twice : (list new : List ℕ) (i k u v : ℕ) → new ≡ set (set list i u) k v → length new ≡ length list
+sized_twice list new i k u v is = ap length is ∙ length-set (set list i u) k v ∙ length-set list i u
+
 -- what holds of a list, places and a count holds of those that are the same
 pub carry : (P : List ℕ → List ℕ → ℕ → Type 0) (list new_list places new_places : List ℕ) (count new_count : ℕ)
     → list ≡ new_list → places ≡ new_places → count ≡ new_count → P new_list new_places new_count → P list places count

@@ -12,7 +12,7 @@ ghost use Rattle.tn_cycle.specs.Queue.{AreQueued, HasKey, IsBefore, IsHeap, IsQu
 ghost use Rattle.tn_cycle.specs.Widths.{most_graph_nodes, most_label, most_walk_cost};
 
 use crate::cell::Cell;
-use crate::queue::{is_not_after, key_at, push, rise, take_front};
+use crate::queue::{Queue, is_not_after, key_at};
 use tn_base::Costs;
 
 /// What a search is for.
@@ -46,6 +46,17 @@ fn begin<C: Costs>(costs: &C, end: u32, row: &mut [Cell])
     }
 }
 
+/// A walk that goes on over a settled node.
+#[derive(Clone, Copy)]
+struct Onward {
+    /// The cost of the arc to that node, where there is one.
+    first: Option<i128>,
+    /// That node.
+    u: u32,
+    /// Its cell.
+    beyond: Cell,
+}
+
 /// The sum of two costs.
 fn total(first: i128, rest: i128) -> i128
     requires first { IsAtMost first most_cost }
@@ -74,33 +85,27 @@ fn is_ready(waits: bool, own: Cell) -> bool
     waits && own.cost.is_some()
 }
 
-/// Lists the nodes that wait and have a walk, and gives their number.
-fn list_waiting(
-    labels: &[i128],
-    waits: &[bool],
-    nodes: u32,
-    row: &[Cell],
-    list: &mut [u32],
-    places: &mut [u32],
-) -> u32
+/// Lists the nodes that wait and have a walk.
+fn list_waiting(labels: &[i128], waits: &[bool], nodes: u32, row: &[Cell], queue: &mut Queue<'_>)
     requires near { AreNear (2 * most_label) labels.now }
     requires labelled { (v : ℕ) → v < nodes → flag_at waits.now v ≡ true → v < length labels.now }
     requires waits_sized { nodes ≤ length waits.now }
     requires sized { nodes ≤ length row.now }
-    requires places { nodes ≤ length list.old }
-    requires spaced { length row.now ≤ length places.old }
+    requires places { nodes ≤ length queue.old.list.now }
+    requires spaced { length row.now ≤ length queue.old.places.now }
     requires few { nodes ≤ most_graph_nodes + 1 }
     requires room { HasRoom nodes (cell_at row.now) }
-    ensures { AreQueued nodes (flag_at waits.now) labels.now row.now list.new places.new result }
+    requires empty { queue.old.count ≡ 0 }
+    ensures queued { AreQueued nodes (flag_at waits.now) labels.now row.now queue.new.list.now queue.new.places.now
+        queue.new.count }
+    ensures list_sized { length queue.new.list.now ≡ length queue.old.list.now }
+    ensures places_sized { length queue.new.places.now ≡ length queue.old.places.now }
 {
-    let mut count = 0;
     for v in 0..nodes {
         if is_ready(waits[v as usize], row[v as usize]) {
-            push(labels, row, list, places, count, v);
-            count += 1;
+            queue.push(labels, row, v);
         }
     }
-    count
 }
 
 /// What a key has over the label of the end.
@@ -151,25 +156,27 @@ fn front_counts(
     sought: Sought,
     labels: &[i128],
     row: &[Cell],
-    list: &[u32],
-    count: u32,
+    queue: &Queue<'_>,
 ) -> bool
-    requires room { count ≤ length list.now }
-    requires keyed { (i : ℕ) → i < count → HasKey labels.now row.now (node_in_list list.now i) }
-    requires reached { (i : ℕ) → i < count → is_some (cell_at row.now (node_in_list list.now i)).cost ≡ true }
-    requires heap { IsHeap (IsBefore (label_in labels.now) (cell_at row.now)) list.now count }
+    requires room { queue.now.count ≤ length queue.now.list.now }
+    requires keyed { (i : ℕ) → i < queue.now.count → HasKey labels.now row.now (node_in_list queue.now.list.now i) }
+    requires reached { (i : ℕ) → i < queue.now.count
+        → is_some (cell_at row.now (node_in_list queue.now.list.now i)).cost ≡ true }
+    requires heap { IsHeap (IsBefore (label_in labels.now) (cell_at row.now)) queue.now.list.now queue.now.count }
     requires near { AreNear (2 * most_label) labels.now }
     requires last { end < length row.now }
     requires base { IsAtMost base (2 * most_label) }
-    ensures yes { result ≡ true → IsNextToSettle count base sought (label_by (label_in labels.now) list.now)
-        (cell_by (cell_at row.now) list.now) (cell_at row.now end) every (Some 0) }
-    ensures no { result ≡ false → IsNextToSettle count base sought (label_by (label_in labels.now) list.now)
-        (cell_by (cell_at row.now) list.now) (cell_at row.now end) every None }
+    ensures yes { result ≡ true → IsNextToSettle queue.now.count base sought
+        (label_by (label_in labels.now) queue.now.list.now) (cell_by (cell_at row.now) queue.now.list.now)
+        (cell_at row.now end) every (Some 0) }
+    ensures no { result ≡ false → IsNextToSettle queue.now.count base sought
+        (label_by (label_in labels.now) queue.now.list.now) (cell_by (cell_at row.now) queue.now.list.now)
+        (cell_at row.now end) every None }
 {
-    if count == 0 {
+    if queue.count == 0 {
         return false;
     }
-    let front = list[0];
+    let front = queue.list[0];
     let key = key_at(labels, row, front);
     !is_past(
         sought,
@@ -193,19 +200,19 @@ fn improves(own: Cell, cost: i128, inner_nodes: u32, next: u32) -> bool
 
 /// The cell of a node, once one that may come after it on the way to the end is settled, where the walk over that node
 /// is better than its own: it costs less, at the same cost it has fewer arcs, or it goes over the lower node.
-fn better(own: Cell, first: Option<i128>, beyond: Cell, u: u32) -> Option<Cell>
-    requires first { ForSome first (λ a. IsAtMost a most_cost) }
-    requires rest { ForSome beyond.cost (λ w. IsAtMost w most_walk_cost) }
-    requires counted { beyond.inner_nodes < 2 ^ 31 }
-    ensures offered { IsOffered own first beyond u (unwrap_or result own) }
-    ensures over { (new : Cell) → result ≡ Some new → GoesOver first beyond u new }
+fn better(own: Cell, onward: Onward) -> Option<Cell>
+    requires first { ForSome onward.first (λ a. IsAtMost a most_cost) }
+    requires rest { ForSome onward.beyond.cost (λ w. IsAtMost w most_walk_cost) }
+    requires counted { onward.beyond.inner_nodes < 2 ^ 31 }
+    ensures offered { IsOffered own onward.first onward.beyond onward.u (unwrap_or result own) }
+    ensures over { (new : Cell) → result ≡ Some new → GoesOver onward.first onward.beyond onward.u new }
 {
-    let inner_nodes = beyond.inner_nodes + 1;
-    match extended(first, beyond.cost) {
-        Some(cost) if improves(own, cost, inner_nodes, u) => Some(Cell {
+    let inner_nodes = onward.beyond.inner_nodes + 1;
+    match extended(onward.first, onward.beyond.cost) {
+        Some(cost) if improves(own, cost, inner_nodes, onward.u) => Some(Cell {
             cost: Some(cost),
             inner_nodes,
-            next: u,
+            next: onward.u,
         }),
         _ => None,
     }
@@ -226,63 +233,59 @@ fn first_cost<C: Costs>(costs: &C, end: u32, u: u32, v: u32, waits: bool) -> Opt
     }
 }
 
-/// Lets node `v` go on over `u`, whose own cell is the one beyond, where that is better than its walk. A node that
-/// waits comes into the queue with its first walk, and to its new place there with each better one. Gives the number of
-/// listed nodes.
+/// Lets node `v` go on over a settled one, where that is better than its walk. A node that waits comes into the queue
+/// with its first walk, and to its new place there with each better one.
 fn go_on(
     v: u32,
     waits: bool,
-    first: Option<i128>,
-    beyond: Cell,
-    u: u32,
+    onward: Onward,
     labels: &[i128],
     row: &mut [Cell],
-    list: &mut [u32],
-    places: &mut [u32],
-    count: u32,
-) -> u32
+    queue: &mut Queue<'_>,
+)
     requires sized { v < length row.old }
     requires labelled { waits ≡ true → v < length labels.now }
     requires near { AreNear (2 * most_label) labels.now }
-    requires places { count < length list.old }
-    requires spaced { length row.old ≤ length places.old }
-    requires few { count ≤ most_graph_nodes }
-    requires first { ForSome first (λ a. IsAtMost a most_cost) }
-    requires rest { ForSome beyond.cost (λ w. IsAtMost w most_walk_cost) }
-    requires counted { beyond.inner_nodes < 2 ^ 31 }
+    requires places { queue.old.count < length queue.old.list.now }
+    requires spaced { length row.old ≤ length queue.old.places.now }
+    requires few { queue.old.count ≤ most_graph_nodes }
+    requires first { ForSome onward.first (λ a. IsAtMost a most_cost) }
+    requires rest { ForSome onward.beyond.cost (λ w. IsAtMost w most_walk_cost) }
+    requires counted { onward.beyond.inner_nodes < 2 ^ 31 }
     requires room { ForSome (cell_at row.old v).cost (λ w. IsAtMost w (2 * most_walk_cost)) }
     requires ready { is_ready waits (cell_at row.old v) ≡ true
-        → (i : ℕ) × (i < count) × (node_in_list list.old i ≡ v) }
-    requires unready { is_ready waits (cell_at row.old v) ≡ false → (i : ℕ) → i < count → node_in_list list.old i ≢ v }
-    requires queue { IsQueue labels.now row.old list.old places.old count }
-    requires heap { IsHeap (IsBefore (label_in labels.now) (cell_at row.old)) list.old count }
-    ensures own { IsOffered (cell_at row.old v) first beyond u (cell_at row.new v) }
+        → (i : ℕ) × (i < queue.old.count) × (node_in_list queue.old.list.now i ≡ v) }
+    requires unready { is_ready waits (cell_at row.old v) ≡ false
+        → (i : ℕ) → i < queue.old.count → node_in_list queue.old.list.now i ≢ v }
+    requires queue { IsQueue labels.now row.old queue.old.list.now queue.old.places.now queue.old.count }
+    requires heap { IsHeap (IsBefore (label_in labels.now) (cell_at row.old)) queue.old.list.now queue.old.count }
+    ensures own { IsOffered (cell_at row.old v) onward.first onward.beyond onward.u (cell_at row.new v) }
     ensures others { (w : ℕ) → w ≢ v → cell_at row.new w ≡ cell_at row.old w }
     ensures listed { (nodes : ℕ) (flag : ℕ → Bool) → v < nodes → flag v ≡ waits
-        → AreReady nodes flag (cell_at row.old) list.old count → AreReady nodes flag (cell_at row.new) list.new result }
-    ensures queue { IsQueue labels.now row.new list.new places.new result }
-    ensures heap { IsHeap (IsBefore (label_in labels.now) (cell_at row.new)) list.new result }
+        → AreReady nodes flag (cell_at row.old) queue.old.list.now queue.old.count
+        → AreReady nodes flag (cell_at row.new) queue.new.list.now queue.new.count }
+    ensures queue { IsQueue labels.now row.new queue.new.list.now queue.new.places.now queue.new.count }
+    ensures heap { IsHeap (IsBefore (label_in labels.now) (cell_at row.new)) queue.new.list.now queue.new.count }
+    ensures list_sized { length queue.new.list.now ≡ length queue.old.list.now }
+    ensures places_sized { length queue.new.places.now ≡ length queue.old.places.now }
 {
     let own = row[v as usize];
-    let Some(new) = better(own, first, beyond, u) else {
-        return count;
+    let Some(new) = better(own, onward) else {
+        return;
     };
     row[v as usize] = new;
     if !waits {
-        return count;
+        return;
     }
     if own.cost.is_some() {
-        let place = places[v as usize];
-        rise(labels, row, list, places, count, place);
-        count
+        let place = queue.places[v as usize];
+        queue.rise(labels, row, place);
     } else {
-        push(labels, row, list, places, count, v);
-        count + 1
+        queue.push(labels, row, v);
     }
 }
 
-/// Goes on over a node that is settled, from each of its predecessors that waits and from the end. Gives the number of
-/// listed nodes.
+/// Goes on over a node that is settled, from each of its predecessors that waits and from the end.
 fn offer<C: Costs>(
     costs: &C,
     end: u32,
@@ -290,14 +293,12 @@ fn offer<C: Costs>(
     labels: &[i128],
     waits: &[bool],
     row: &mut [Cell],
-    list: &mut [u32],
-    places: &mut [u32],
-    count: u32,
-) -> u32
+    queue: &mut Queue<'_>,
+)
     requires sized { C.node_count costs.now ≤ length row.old }
     requires waits_sized { C.node_count costs.now ≤ length waits.now }
-    requires places { C.node_count costs.now ≤ length list.old }
-    requires spaced { length row.old ≤ length places.old }
+    requires places { C.node_count costs.now ≤ length queue.old.list.now }
+    requires spaced { length row.old ≤ length queue.old.places.now }
     requires few { C.node_count costs.now ≤ most_graph_nodes + 1 }
     requires last { end < C.node_count costs.now }
     requires labelled { (v : ℕ) → v < C.node_count costs.now → flag_at waits.now v ≡ true → v < length labels.now }
@@ -306,26 +307,25 @@ fn offer<C: Costs>(
     requires settled { u < C.node_count costs.now }
     requires room { HasRoom (C.node_count costs.now) (cell_at row.old) }
     requires counted { (cell_at row.old u).inner_nodes < 2 ^ 31 }
-    requires queued { AreQueued (C.node_count costs.now) (flag_at waits.now) labels.now row.old list.old places.old
-        count }
+    requires queued { AreQueued (C.node_count costs.now) (flag_at waits.now) labels.now row.old queue.old.list.now
+        queue.old.places.now queue.old.count }
     ensures offered { AreOffered (C.node_count costs.now) (C.arc costs.now) end u (flag_at waits.now)
         (cell_at row.old) (cell_at row.new) }
-    ensures queued { AreQueued (C.node_count costs.now) (flag_at waits.now) labels.now row.new list.new places.new
-        result }
+    ensures queued { AreQueued (C.node_count costs.now) (flag_at waits.now) labels.now row.new queue.new.list.now
+        queue.new.places.now queue.new.count }
+    ensures list_sized { length queue.new.list.now ≡ length queue.old.list.now }
+    ensures places_sized { length queue.new.places.now ≡ length queue.old.places.now }
 {
     let beyond = row[u as usize];
-    let mut listed = count;
     for k in 0..costs.predecessors(u) {
         let v = costs.predecessor(u, k);
         let waiting = waits[v as usize];
         let first = first_cost(costs, end, u, v, waiting);
         if first.is_some() {
-            listed = go_on(
-                v, waiting, first, beyond, u, labels, row, list, places, listed,
-            );
+            let onward = Onward { first, u, beyond };
+            go_on(v, waiting, onward, labels, row, queue);
         }
     }
-    listed
 }
 
 /// Finds, from each node, the walk to `end` of least cost, of these one with the fewest arcs, and of these that over
@@ -365,15 +365,19 @@ pub(crate) fn search_kept<C: Costs>(
 {
     let nodes = costs.nodes();
     begin(costs, end, row);
-    let mut count = list_waiting(labels, waits, nodes, row, list, places);
+    let mut queue = Queue {
+        list,
+        places,
+        count: 0,
+    };
+    list_waiting(labels, waits, nodes, row, &mut queue);
     for settled in 0..nodes {
-        if !front_counts(end, base, sought, labels, row, list, count) {
+        if !front_counts(end, base, sought, labels, row, &queue) {
             return;
         }
-        let u = list[0];
-        count -= 1;
-        take_front(labels, row, list, places, count);
+        let u = queue.list[0];
+        queue.take_front(labels, row);
         waits[u as usize] = false;
-        count = offer(costs, end, u, labels, waits, row, list, places, count);
+        offer(costs, end, u, labels, waits, row, &mut queue);
     }
 }

@@ -4,7 +4,7 @@
 //! the list never comes after the two at twice that place and one or two more. Each listed node has its place written
 //! down, so that it is found where its walk has become better.
 
-ghost use Rattle.std.specs.Prelude.{◌≡◌, ◌≢◌, ℕ, ◌+◌, ◌*◌, ◌<◌, ◌≤◌, ◌+ℤ◌, true, false, Some, None, length, set};
+ghost use Rattle.std.specs.Prelude.{◌≡◌, ◌≢◌, ℕ, ◌+◌, ◌-◌, ◌*◌, ◌<◌, ◌≤◌, ◌+ℤ◌, true, false, Some, None, length, set};
 ghost use Rattle.tn_base.specs.Arcs.{IsAtMost};
 ghost use Rattle.tn_cycle.specs.Answers.{AreNear, label_in};
 ghost use Rattle.tn_cycle.specs.Cells.{cell_at};
@@ -13,6 +13,15 @@ ghost use Rattle.tn_cycle.specs.Queue.{HasKey, HaveSameNodes, IsAbove, IsBefore,
 ghost use Rattle.tn_cycle.specs.Widths.{most_graph_nodes, most_label, most_walk_cost};
 
 use crate::cell::Cell;
+
+/// The nodes that wait and have a walk, in the first so many places of a list.
+#[derive(Drop)]
+pub(crate) struct Queue<'a> {
+    pub(crate) list: &'a mut [u32],
+    /// Where each of them stands.
+    pub(crate) places: &'a mut [u32],
+    pub(crate) count: u32,
+}
 
 /// The key of a node, by the cost of its walk and its label.
 fn key(cost: i128, label: i128) -> i128
@@ -61,32 +70,6 @@ fn is_before(labels: &[i128], row: &[Cell], u: u32, v: u32) -> bool
     )
 }
 
-/// Writes a node to a place of the list, and down that this is its place.
-fn put(list: &mut [u32], places: &mut [u32], place: u32, v: u32)
-    requires listed { place < length list.old }
-    requires spaced { v < length places.old }
-    ensures list { list.new ≡ set list.old place v }
-    ensures places { places.new ≡ set places.old v place }
-{
-    list[place as usize] = v;
-    places[v as usize] = place;
-}
-
-/// Lets the nodes of two places change these.
-fn exchange(list: &mut [u32], places: &mut [u32], i: u32, k: u32)
-    requires first { i < length list.old }
-    requires second { k < length list.old }
-    requires first_spaced { node_in_list list.old i < length places.old }
-    requires second_spaced { node_in_list list.old k < length places.old }
-    ensures list { list.new ≡ set (set list.old i (node_in_list list.old k)) k (node_in_list list.old i) }
-    ensures places { places.new ≡ set (set places.old (node_in_list list.old k) i) (node_in_list list.old i) k }
-{
-    let first = list[i as usize];
-    let second = list[k as usize];
-    put(list, places, i, second);
-    put(list, places, k, first);
-}
-
 /// The place above a place that isn't the front.
 fn place_above(at: u32) -> u32
     requires { 1 ≤ at }
@@ -95,126 +78,175 @@ fn place_above(at: u32) -> u32
     (at - 1) / 2
 }
 
-/// Lets the node at a place change places with the one above it, until it doesn't come before that.
-pub(crate) fn rise(
-    labels: &[i128],
-    row: &[Cell],
-    list: &mut [u32],
-    places: &mut [u32],
-    count: u32,
-    from: u32,
-)
-    requires near { AreNear (2 * most_label) labels.now }
-    requires spaced { length row.now ≤ length places.old }
-    requires queue { IsQueue labels.now row.now list.old places.old count }
-    requires inside { from < count }
-    requires heap { IsHeapBelow (IsBefore (label_in labels.now) (cell_at row.now)) list.old count from }
-    ensures queue { IsQueue labels.now row.now list.new places.new count }
-    ensures heap { IsHeap (IsBefore (label_in labels.now) (cell_at row.now)) list.new count }
-    ensures same { HaveSameNodes list.old list.new count }
-{
-    let mut at = from;
-    // Each turn goes on at a place nearer to the front: so this ends.
-    while at > 0 {
-        let above = place_above(at);
-        if is_before(labels, row, list[above as usize], list[at as usize]) {
-            return;
+impl Queue<'_> {
+    /// Writes a node to a place of the list, and down that this is its place.
+    fn put(&mut self, place: u32, v: u32)
+        requires listed { place < length self.old.list.now }
+        requires spaced { v < length self.old.places.now }
+        ensures list { self.new.list.now ≡ set self.old.list.now place v }
+        ensures places { self.new.places.now ≡ set self.old.places.now v place }
+        ensures count { self.new.count ≡ self.old.count }
+    {
+        self.list[place as usize] = v;
+        self.places[v as usize] = place;
+    }
+
+    /// Lets the nodes of two places change these.
+    fn exchange(&mut self, i: u32, k: u32)
+        requires first { i < length self.old.list.now }
+        requires second { k < length self.old.list.now }
+        requires first_spaced { node_in_list self.old.list.now i < length self.old.places.now }
+        requires second_spaced { node_in_list self.old.list.now k < length self.old.places.now }
+        ensures list { self.new.list.now ≡ set (set self.old.list.now i (node_in_list self.old.list.now k)) k
+            (node_in_list self.old.list.now i) }
+        ensures places { self.new.places.now ≡ set (set self.old.places.now (node_in_list self.old.list.now k) i)
+            (node_in_list self.old.list.now i) k }
+        ensures count { self.new.count ≡ self.old.count }
+    {
+        let first = self.list[i as usize];
+        let second = self.list[k as usize];
+        self.put(i, second);
+        self.put(k, first);
+    }
+
+    /// Lets the node at a place change places with the one above it, until it doesn't come before that.
+    pub(crate) fn rise(&mut self, labels: &[i128], row: &[Cell], from: u32)
+        requires near { AreNear (2 * most_label) labels.now }
+        requires spaced { length row.now ≤ length self.old.places.now }
+        requires queue { IsQueue labels.now row.now self.old.list.now self.old.places.now self.old.count }
+        requires inside { from < self.old.count }
+        requires heap { IsHeapBelow (IsBefore (label_in labels.now) (cell_at row.now)) self.old.list.now
+            self.old.count from }
+        ensures queue { IsQueue labels.now row.now self.new.list.now self.new.places.now self.new.count }
+        ensures heap { IsHeap (IsBefore (label_in labels.now) (cell_at row.now)) self.new.list.now self.new.count }
+        ensures same { HaveSameNodes self.old.list.now self.new.list.now self.new.count }
+        ensures count { self.new.count ≡ self.old.count }
+        ensures list_sized { length self.new.list.now ≡ length self.old.list.now }
+        ensures places_sized { length self.new.places.now ≡ length self.old.places.now }
+    {
+        let mut at = from;
+        // Each turn goes on at a place nearer to the front: so this ends.
+        while at > 0 {
+            let above = place_above(at);
+            if is_before(
+                labels,
+                row,
+                self.list[above as usize],
+                self.list[at as usize],
+            ) {
+                return;
+            }
+            self.exchange(above, at);
+            at = above;
         }
-        exchange(list, places, above, at);
-        at = above;
     }
-}
 
-/// Of the places below one, that of the node that comes first. None where there are none.
-fn first_below(labels: &[i128], row: &[Cell], list: &[u32], count: u32, at: u32) -> Option<u32>
-    requires near { AreNear (2 * most_label) labels.now }
-    requires room { count ≤ length list.now }
-    requires keyed { (i : ℕ) → i < count → HasKey labels.now row.now (node_in_list list.now i) }
-    requires few { count ≤ most_graph_nodes }
-    requires inside { at < count }
-    ensures some { (below : ℕ) → result ≡ Some below
-        → IsFirstBelow (IsBefore (label_in labels.now) (cell_at row.now)) list.now count at below }
-    ensures none { result ≡ None → count ≤ 2 * at + 1 }
-{
-    let left = 2 * at + 1;
-    let right = left + 1;
-    if right < count && !is_before(labels, row, list[left as usize], list[right as usize]) {
-        Some(right)
-    } else if left < count {
-        Some(left)
-    } else {
-        None
-    }
-}
-
-/// Lets the node at the front change places with the first of those below it, until it doesn't come after that.
-fn sink(labels: &[i128], row: &[Cell], list: &mut [u32], places: &mut [u32], count: u32)
-    requires near { AreNear (2 * most_label) labels.now }
-    requires spaced { length row.now ≤ length places.old }
-    requires few { count ≤ most_graph_nodes }
-    requires queue { IsQueue labels.now row.now list.old places.old count }
-    requires heap { IsHeapAbove (IsBefore (label_in labels.now) (cell_at row.now)) list.old count 0 }
-    ensures queue { IsQueue labels.now row.now list.new places.new count }
-    ensures heap { IsHeap (IsBefore (label_in labels.now) (cell_at row.now)) list.new count }
-    ensures same { HaveSameNodes list.old list.new count }
-{
-    let mut at = 0;
-    // Each turn goes on at a place farther from the front: so this ends.
-    while at < count {
-        let Some(below) = first_below(labels, row, list, count, at) else {
-            return;
-        };
-        if is_before(labels, row, list[at as usize], list[below as usize]) {
-            return;
+    /// Of the places below one, that of the node that comes first. None where there are none.
+    fn first_below(&self, labels: &[i128], row: &[Cell], at: u32) -> Option<u32>
+        requires near { AreNear (2 * most_label) labels.now }
+        requires room { self.now.count ≤ length self.now.list.now }
+        requires keyed { (i : ℕ) → i < self.now.count → HasKey labels.now row.now (node_in_list self.now.list.now i) }
+        requires few { self.now.count ≤ most_graph_nodes }
+        requires inside { at < self.now.count }
+        ensures some { (below : ℕ) → result ≡ Some below
+            → IsFirstBelow (IsBefore (label_in labels.now) (cell_at row.now)) self.now.list.now self.now.count at
+            below }
+        ensures none { result ≡ None → self.now.count ≤ 2 * at + 1 }
+    {
+        let left = 2 * at + 1;
+        let right = left + 1;
+        if right < self.count
+            && !is_before(
+                labels,
+                row,
+                self.list[left as usize],
+                self.list[right as usize],
+            )
+        {
+            Some(right)
+        } else if left < self.count {
+            Some(left)
+        } else {
+            None
         }
-        exchange(list, places, at, below);
-        at = below;
     }
-}
 
-/// Lists one node more.
-pub(crate) fn push(
-    labels: &[i128],
-    row: &[Cell],
-    list: &mut [u32],
-    places: &mut [u32],
-    count: u32,
-    v: u32,
-)
-    requires near { AreNear (2 * most_label) labels.now }
-    requires spaced { length row.now ≤ length places.old }
-    requires few { count ≤ most_graph_nodes }
-    requires room { count < length list.old }
-    requires queue { IsQueue labels.now row.now list.old places.old count }
-    requires heap { IsHeap (IsBefore (label_in labels.now) (cell_at row.now)) list.old count }
-    requires keyed { HasKey labels.now row.now v }
-    requires absent { (i : ℕ) → i < count → node_in_list list.old i ≢ v }
-    ensures queue { IsQueue labels.now row.now list.new places.new (count + 1) }
-    ensures heap { IsHeap (IsBefore (label_in labels.now) (cell_at row.now)) list.new (count + 1) }
-    ensures same { HaveSameNodes (set list.old count v) list.new (count + 1) }
-{
-    put(list, places, count, v);
-    rise(labels, row, list, places, count + 1, count);
-}
+    /// Lets the node at the front change places with the first of those below it, until it doesn't come after that.
+    fn sink(&mut self, labels: &[i128], row: &[Cell])
+        requires near { AreNear (2 * most_label) labels.now }
+        requires spaced { length row.now ≤ length self.old.places.now }
+        requires few { self.old.count ≤ most_graph_nodes }
+        requires queue { IsQueue labels.now row.now self.old.list.now self.old.places.now self.old.count }
+        requires heap { IsHeapAbove (IsBefore (label_in labels.now) (cell_at row.now)) self.old.list.now
+            self.old.count 0 }
+        ensures queue { IsQueue labels.now row.now self.new.list.now self.new.places.now self.new.count }
+        ensures heap { IsHeap (IsBefore (label_in labels.now) (cell_at row.now)) self.new.list.now self.new.count }
+        ensures same { HaveSameNodes self.old.list.now self.new.list.now self.new.count }
+        ensures count { self.new.count ≡ self.old.count }
+        ensures list_sized { length self.new.list.now ≡ length self.old.list.now }
+        ensures places_sized { length self.new.places.now ≡ length self.old.places.now }
+    {
+        let mut at = 0;
+        // Each turn goes on at a place farther from the front: so this ends.
+        while at < self.count {
+            let Some(below) = self.first_below(labels, row, at) else {
+                return;
+            };
+            if is_before(
+                labels,
+                row,
+                self.list[at as usize],
+                self.list[below as usize],
+            ) {
+                return;
+            }
+            self.exchange(at, below);
+            at = below;
+        }
+    }
 
-/// Takes the front from the list, of which so many nodes are left.
-pub(crate) fn take_front(
-    labels: &[i128],
-    row: &[Cell],
-    list: &mut [u32],
-    places: &mut [u32],
-    left: u32,
-)
-    requires near { AreNear (2 * most_label) labels.now }
-    requires spaced { length row.now ≤ length places.old }
-    requires few { left ≤ most_graph_nodes }
-    requires queue { IsQueue labels.now row.now list.old places.old (left + 1) }
-    requires heap { IsHeap (IsBefore (label_in labels.now) (cell_at row.now)) list.old (left + 1) }
-    ensures queue { IsQueue labels.now row.now list.new places.new left }
-    ensures heap { IsHeap (IsBefore (label_in labels.now) (cell_at row.now)) list.new left }
-    ensures same { HaveSameNodes (set list.old 0 (node_in_list list.old left)) list.new left }
-{
-    let last = list[left as usize];
-    put(list, places, 0, last);
-    sink(labels, row, list, places, left);
+    /// Lists one node more.
+    pub(crate) fn push(&mut self, labels: &[i128], row: &[Cell], v: u32)
+        requires near { AreNear (2 * most_label) labels.now }
+        requires spaced { length row.now ≤ length self.old.places.now }
+        requires few { self.old.count ≤ most_graph_nodes }
+        requires room { self.old.count < length self.old.list.now }
+        requires queue { IsQueue labels.now row.now self.old.list.now self.old.places.now self.old.count }
+        requires heap { IsHeap (IsBefore (label_in labels.now) (cell_at row.now)) self.old.list.now self.old.count }
+        requires keyed { HasKey labels.now row.now v }
+        requires absent { (i : ℕ) → i < self.old.count → node_in_list self.old.list.now i ≢ v }
+        ensures queue { IsQueue labels.now row.now self.new.list.now self.new.places.now self.new.count }
+        ensures heap { IsHeap (IsBefore (label_in labels.now) (cell_at row.now)) self.new.list.now self.new.count }
+        ensures same { HaveSameNodes (set self.old.list.now self.old.count v) self.new.list.now self.new.count }
+        ensures count { self.new.count ≡ self.old.count + 1 }
+        ensures list_sized { length self.new.list.now ≡ length self.old.list.now }
+        ensures places_sized { length self.new.places.now ≡ length self.old.places.now }
+    {
+        let last = self.count;
+        self.put(last, v);
+        self.count = last + 1;
+        self.rise(labels, row, last);
+    }
+
+    /// Takes the front from the list.
+    pub(crate) fn take_front(&mut self, labels: &[i128], row: &[Cell])
+        requires near { AreNear (2 * most_label) labels.now }
+        requires spaced { length row.now ≤ length self.old.places.now }
+        requires some { 1 ≤ self.old.count }
+        requires few { self.old.count ≤ most_graph_nodes + 1 }
+        requires queue { IsQueue labels.now row.now self.old.list.now self.old.places.now self.old.count }
+        requires heap { IsHeap (IsBefore (label_in labels.now) (cell_at row.now)) self.old.list.now self.old.count }
+        ensures queue { IsQueue labels.now row.now self.new.list.now self.new.places.now self.new.count }
+        ensures heap { IsHeap (IsBefore (label_in labels.now) (cell_at row.now)) self.new.list.now self.new.count }
+        ensures same { HaveSameNodes (set self.old.list.now 0 (node_in_list self.old.list.now self.new.count))
+            self.new.list.now self.new.count }
+        ensures count { self.new.count ≡ self.old.count - 1 }
+        ensures list_sized { length self.new.list.now ≡ length self.old.list.now }
+        ensures places_sized { length self.new.places.now ≡ length self.old.places.now }
+    {
+        self.count -= 1;
+        let last = self.list[self.count as usize];
+        self.put(0, last);
+        self.sink(labels, row);
+    }
 }

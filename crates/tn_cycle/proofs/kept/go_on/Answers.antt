@@ -1,12 +1,12 @@
 -- What shows the clauses of `go_on` of `src/kept.rt`.
-use Rattle.std.proofs.Common.{◌≡◌, ◌≢◌, ◌+◌, ◌<◌, ◌∙◌, ℕ, ℤ, List, length, Option, Some, set, refl, sym, ap, subst, arith, Bool, true, false, ◌&&◌, not, is_some}
+use Rattle.std.proofs.Common.{◌≡◌, ◌≢◌, ◌<◌, ◌∙◌, ℕ, ℤ, List, length, Option, Some, set, refl, sym, ap, subst, arith, Bool, true, false, ◌&&◌, not, is_some}
 use Rattle.std.proofs.lemmas.Bool.{false≢true}
 use Rattle.std.proofs.lemmas.List.{get_or-set_same, get_or-set_other, length-set}
 use Rattle.std.specs.Prelude.{unwrap_or}
 use Rattle.tn_cycle.specs.declared.cell.Cell.{Cell}
 use Rattle.tn_cycle.specs.Answers.{label_in}
 use Rattle.tn_cycle.specs.Cells.{cell_at, no_cell}
-use Rattle.tn_cycle.specs.Kept.{IsOffered, is_ready, node_in_list}
+use Rattle.tn_cycle.specs.Kept.{AreWaiting, IsOffered, is_ready, node_in_list}
 use Rattle.tn_cycle.specs.Queue.{IsBefore}
 use Rattle.tn_cycle.proofs.HeapLemmas.{lower_heap, other_heap}
 use Rattle.tn_cycle.proofs.ListLemmas.{ready}
@@ -42,18 +42,18 @@ returns-then-not-waits-clause-heap c =
     let row = c.args.row.now in
     let v = c.args.v in
     other_heap (IsBefore (label_in labels) (cell_at row))
-    (IsBefore (label_in labels) (cell_at (set row v c.in-Some.new))) v c.args.list.now c.args.count
+    (IsBefore (label_in labels) (cell_at (set row v c.in-Some.new))) v c.args.queue.now.list.now c.args.queue.now.count
     (same_order labels row v c.in-Some.new c.requires.sized)
     (c.requires.unready (ap (λ (s : Bool). is_ready s (cell_at row v)) c.if-not-waits.true)) c.requires.heap
 
 pub rise-requires-clause-queue : goal.rise-requires-clause-queue
 rise-requires-clause-queue c =
     let own = cell_at c.args.row.now c.args.v in
-    let offers = better_offered own c.in-Some.new c.better.result c.args.first c.args.beyond c.args.u c.in-Some.is
+    let offers = better_offered own c.in-Some.new c.better.result c.args.onward.first c.args.onward.beyond c.args.onward.u c.in-Some.is
     c.better.ensures.offered in
-    changed_queue c.args.labels.now c.args.row.now c.args.v c.in-Some.new c.requires.sized c.args.list.now
-    c.args.places.now c.args.count
-    (offered_room own c.args.first c.args.beyond c.args.u c.in-Some.new offers c.requires.room c.requires.first
+    changed_queue c.args.labels.now c.args.row.now c.args.v c.in-Some.new c.requires.sized c.args.queue.now.list.now
+    c.args.queue.now.places.now c.args.queue.now.count
+    (offered_room own c.args.onward.first c.args.onward.beyond c.args.onward.u c.in-Some.new offers c.requires.room c.requires.first
     c.requires.rest) c.requires.queue
 
 pub rise-requires-clause-heap : goal.rise-requires-clause-heap
@@ -61,19 +61,19 @@ rise-requires-clause-heap c =
     let labels = c.args.labels.now in
     let row = c.args.row.now in
     let v = c.args.v in
-    let list = c.args.list.now in
+    let list = c.args.queue.now.list.now in
     let own = cell_at row v in
     let new = c.in-Some.new in
-    let offers = better_offered own new c.better.result c.args.first c.args.beyond c.args.u c.in-Some.is
+    let offers = better_offered own new c.better.result c.args.onward.first c.args.onward.beyond c.args.onward.u c.in-Some.is
     c.better.ensures.offered in
     let cost = some_cost own.cost (sym c.is_some.ensures ∙ c.if-is_some.true) in
     let at = c.requires.ready (ready c.args.waits own cost.0 c.if-not-waits.false cost.1) in
-    let place = place_of labels row list c.args.places.now c.args.count c.requires.queue v in
-    let here : node_in_list c.args.places.now v ≡ at.0 = place at.0 at.1 at.2 in
+    let place = place_of labels row list c.args.queue.now.places.now c.args.queue.now.count c.requires.queue v in
+    let here : node_in_list c.args.queue.now.places.now v ≡ at.0 = place at.0 at.1 at.2 in
     lower_heap (IsBefore (label_in labels) (cell_at row)) (IsBefore (label_in labels) (cell_at (set row v new))) v list
-    c.args.count (same_order labels row v new c.requires.sized) (before-trans (label_in labels) (cell_at row))
+    c.args.queue.now.count (same_order labels row v new c.requires.sized) (before-trans (label_in labels) (cell_at row))
     (forward_order labels row v new c.requires.sized cost.0 cost.1 (offers.by_own cost.0 cost.1))
-    (node_in_list c.args.places.now v) (ap (node_in_list list) here ∙ at.2) (λ i inside is. sym (place i inside is))
+    (node_in_list c.args.queue.now.places.now v) (ap (node_in_list list) here ∙ at.2) (λ i inside is. sym (place i inside is))
     c.requires.heap (omega (arith, here, at.1))
 
 pub push-requires-clause-heap : goal.push-requires-clause-heap
@@ -82,7 +82,7 @@ push-requires-clause-heap c =
     let row = c.args.row.now in
     let v = c.args.v in
     other_heap (IsBefore (label_in labels) (cell_at row))
-    (IsBefore (label_in labels) (cell_at (set row v c.in-Some.new))) v c.args.list.now c.args.count
+    (IsBefore (label_in labels) (cell_at (set row v c.in-Some.new))) v c.args.queue.now.list.now c.args.queue.now.count
     (same_order labels row v c.in-Some.new c.requires.sized)
     (c.requires.unready (unready c.args.waits (cell_at row v) (sym c.is_some.ensures ∙ c.if-is_some.false)))
     c.requires.heap
@@ -91,10 +91,10 @@ pub push-requires-clause-keyed : goal.push-requires-clause-keyed
 push-requires-clause-keyed c =
     let row = c.args.row.now in
     let own = cell_at row c.args.v in
-    let offers = better_offered own c.in-Some.new c.better.result c.args.first c.args.beyond c.args.u c.in-Some.is
+    let offers = better_offered own c.in-Some.new c.better.result c.args.onward.first c.args.onward.beyond c.args.onward.u c.in-Some.is
     c.better.ensures.offered in
     changed_key c.args.labels.now row c.args.v c.in-Some.new c.requires.sized
-    (offered_room own c.args.first c.args.beyond c.args.u c.in-Some.new offers c.requires.room c.requires.first
+    (offered_room own c.args.onward.first c.args.onward.beyond c.args.onward.u c.in-Some.new offers c.requires.room c.requires.first
     c.requires.rest) c.args.v
     (record {
       labelled = c.requires.labelled c.if-not-waits.false;
@@ -108,15 +108,18 @@ returns-then-is_some-clause-listed c nodes flag inside flag_is lists =
     let v = c.args.v in
     let own = cell_at row v in
     let new = c.in-Some.new in
-    let offers = better_offered own new c.better.result c.args.first c.args.beyond c.args.u c.in-Some.is
+    let offers = better_offered own new c.better.result c.args.onward.first c.args.onward.beyond c.args.onward.u c.in-Some.is
     c.better.ensures.offered in
     let cost = some_cost own.cost (sym c.is_some.ensures ∙ c.if-is_some.true) in
     let was : is_ready c.args.waits own ≡ true = ready c.args.waits own cost.0 c.if-not-waits.false cost.1 in
-    let kept = list_kept nodes v c.args.u c.args.count c.args.waits flag c.args.first c.args.beyond new row
-    c.args.list.now inside c.requires.sized flag_is offers lists
+    let kept = list_kept nodes v c.args.onward.u c.args.queue.now.count c.args.waits flag c.args.onward.first c.args.onward.beyond new row
+    c.args.queue.now.list.now inside c.requires.sized flag_is offers lists
     (not_first (is_ready c.args.waits new) (is_ready c.args.waits own) was) in
-    same_waiting c.args.labels.now (set row v new) c.rise.new.list c.rise.new.places c.args.count c.rise.ensures.queue
-    nodes (λ w. is_ready (flag w) (cell_at (set row v new) w)) c.args.list.now kept c.rise.ensures.same
+    let now = λ (w : ℕ). is_ready (flag w) (cell_at (set row v new) w) in
+    let risen = c.rise.new.self in
+    same_waiting c.args.labels.now (set row v new) risen.list.now risen.places.now risen.count c.rise.ensures.queue
+    nodes now c.args.queue.now.list.now
+    (subst (AreWaiting nodes now c.args.queue.now.list.now) (sym c.rise.ensures.count) kept) c.rise.ensures.same
 
 pub returns-else-is_some-clause-listed : goal.returns-else-is_some-clause-listed
 returns-else-is_some-clause-listed c nodes flag inside flag_is lists =
@@ -124,30 +127,33 @@ returns-else-is_some-clause-listed c nodes flag inside flag_is lists =
     let v = c.args.v in
     let own = cell_at row v in
     let new = c.in-Some.new in
-    let offers = better_offered own new c.better.result c.args.first c.args.beyond c.args.u c.in-Some.is
+    let offers = better_offered own new c.better.result c.args.onward.first c.args.onward.beyond c.args.onward.u c.in-Some.is
     c.better.ensures.offered in
     let over = c.better.ensures.over new c.in-Some.is in
     let now : is_ready c.args.waits new ≡ true =
     ready c.args.waits new over.cost c.if-not-waits.false over.cost_is in
     let was : is_ready c.args.waits own ≡ false =
     unready c.args.waits own (sym c.is_some.ensures ∙ c.if-is_some.false) in
-    let reached = list_reached nodes v c.args.u c.args.count c.args.waits flag c.args.first c.args.beyond new row
-    c.args.list.now inside c.requires.sized flag_is offers lists c.requires.places
+    let reached = list_reached nodes v c.args.onward.u c.args.queue.now.count c.args.waits flag c.args.onward.first c.args.onward.beyond new row
+    c.args.queue.now.list.now inside c.requires.sized flag_is offers lists c.requires.places
     (is_first (is_ready c.args.waits new) (is_ready c.args.waits own) now was) in
-    same_waiting c.args.labels.now (set row v new) c.push.new.list c.push.new.places (c.args.count + 1)
-    c.push.ensures.queue nodes (λ w. is_ready (flag w) (cell_at (set row v new) w))
-    (set c.args.list.now c.args.count v) reached c.push.ensures.same
+    let ready_now = λ (w : ℕ). is_ready (flag w) (cell_at (set row v new) w) in
+    let pushed = c.push.new.self in
+    let put_on = set c.args.queue.now.list.now c.args.queue.now.count v in
+    same_waiting c.args.labels.now (set row v new) pushed.list.now pushed.places.now pushed.count c.push.ensures.queue
+    nodes ready_now put_on (subst (AreWaiting nodes ready_now put_on) (sym c.push.ensures.count) reached)
+    c.push.ensures.same
 
-pub bounds-places-v : goal.bounds-places-v
-bounds-places-v c = omega (arith, c.requires.sized, c.requires.spaced)
+pub bounds-queue-v : goal.bounds-queue-v
+bounds-queue-v c = omega (arith, c.requires.sized, c.requires.spaced)
 
 pub rise-requires-clause-inside : goal.rise-requires-clause-inside
 rise-requires-clause-inside c =
     let own = cell_at c.args.row.now c.args.v in
     let cost = some_cost own.cost (sym c.is_some.ensures ∙ c.if-is_some.true) in
     let at = c.requires.ready (ready c.args.waits own cost.0 c.if-not-waits.false cost.1) in
-    let here : node_in_list c.args.places.now c.args.v ≡ at.0 =
-    place_of c.args.labels.now c.args.row.now c.args.list.now c.args.places.now c.args.count c.requires.queue c.args.v
+    let here : node_in_list c.args.queue.now.places.now c.args.v ≡ at.0 =
+    place_of c.args.labels.now c.args.row.now c.args.queue.now.list.now c.args.queue.now.places.now c.args.queue.now.count c.requires.queue c.args.v
     at.0 at.1 at.2 in
     omega (arith, here, at.1)
 
@@ -159,11 +165,11 @@ push-requires-clause-absent c =
 pub push-requires-clause-queue : goal.push-requires-clause-queue
 push-requires-clause-queue c =
     let own = cell_at c.args.row.now c.args.v in
-    let offers = better_offered own c.in-Some.new c.better.result c.args.first c.args.beyond c.args.u c.in-Some.is
+    let offers = better_offered own c.in-Some.new c.better.result c.args.onward.first c.args.onward.beyond c.args.onward.u c.in-Some.is
     c.better.ensures.offered in
-    changed_queue c.args.labels.now c.args.row.now c.args.v c.in-Some.new c.requires.sized c.args.list.now
-    c.args.places.now c.args.count
-    (offered_room own c.args.first c.args.beyond c.args.u c.in-Some.new offers c.requires.room c.requires.first
+    changed_queue c.args.labels.now c.args.row.now c.args.v c.in-Some.new c.requires.sized c.args.queue.now.list.now
+    c.args.queue.now.places.now c.args.queue.now.count
+    (offered_room own c.args.onward.first c.args.onward.beyond c.args.onward.u c.in-Some.new offers c.requires.room c.requires.first
     c.requires.rest) c.requires.queue
 
 pub push-requires-clause-spaced : goal.push-requires-clause-spaced
@@ -172,11 +178,11 @@ push-requires-clause-spaced c = omega (arith, c.requires.spaced, length-set c.ar
 pub returns-then-not-waits-clause-queue : goal.returns-then-not-waits-clause-queue
 returns-then-not-waits-clause-queue c =
     let own = cell_at c.args.row.now c.args.v in
-    let offers = better_offered own c.in-Some.new c.better.result c.args.first c.args.beyond c.args.u c.in-Some.is
+    let offers = better_offered own c.in-Some.new c.better.result c.args.onward.first c.args.onward.beyond c.args.onward.u c.in-Some.is
     c.better.ensures.offered in
-    changed_queue c.args.labels.now c.args.row.now c.args.v c.in-Some.new c.requires.sized c.args.list.now
-    c.args.places.now c.args.count
-    (offered_room own c.args.first c.args.beyond c.args.u c.in-Some.new offers c.requires.room c.requires.first
+    changed_queue c.args.labels.now c.args.row.now c.args.v c.in-Some.new c.requires.sized c.args.queue.now.list.now
+    c.args.queue.now.places.now c.args.queue.now.count
+    (offered_room own c.args.onward.first c.args.onward.beyond c.args.onward.u c.in-Some.new offers c.requires.room c.requires.first
     c.requires.rest) c.requires.queue
 
 -- a node that doesn't wait has no first walk in the queue
@@ -190,9 +196,9 @@ returns-then-not-waits-clause-listed c nodes flag inside flag_is lists =
     let v = c.args.v in
     let own = cell_at row v in
     let new = c.in-Some.new in
-    let offers = better_offered own new c.better.result c.args.first c.args.beyond c.args.u c.in-Some.is
+    let offers = better_offered own new c.better.result c.args.onward.first c.args.onward.beyond c.args.onward.u c.in-Some.is
     c.better.ensures.offered in
-    list_kept nodes v c.args.u c.args.count c.args.waits flag c.args.first c.args.beyond new row c.args.list.now inside
+    list_kept nodes v c.args.onward.u c.args.queue.now.count c.args.waits flag c.args.onward.first c.args.onward.beyond new row c.args.queue.now.list.now inside
     c.requires.sized flag_is offers lists
     (not_ready c.args.waits (is_ready c.args.waits own) new c.if-not-waits.true)
 
@@ -213,18 +219,18 @@ module _ (own new : Cell) (row : List Cell) (v : ℕ) where
 
 pub returns-then-not-waits-clause-own : goal.returns-then-not-waits-clause-own
 returns-then-not-waits-clause-own c =
-    own_new (cell_at c.args.row.now c.args.v) c.in-Some.new c.args.row.now c.args.v c.better.result c.args.first
-    c.args.beyond c.args.u c.requires.sized c.in-Some.is c.better.ensures.offered
+    own_new (cell_at c.args.row.now c.args.v) c.in-Some.new c.args.row.now c.args.v c.better.result c.args.onward.first
+    c.args.onward.beyond c.args.onward.u c.requires.sized c.in-Some.is c.better.ensures.offered
 
 pub returns-then-is_some-clause-own : goal.returns-then-is_some-clause-own
 returns-then-is_some-clause-own c =
-    own_new (cell_at c.args.row.now c.args.v) c.in-Some.new c.args.row.now c.args.v c.better.result c.args.first
-    c.args.beyond c.args.u c.requires.sized c.in-Some.is c.better.ensures.offered
+    own_new (cell_at c.args.row.now c.args.v) c.in-Some.new c.args.row.now c.args.v c.better.result c.args.onward.first
+    c.args.onward.beyond c.args.onward.u c.requires.sized c.in-Some.is c.better.ensures.offered
 
 pub returns-else-is_some-clause-own : goal.returns-else-is_some-clause-own
 returns-else-is_some-clause-own c =
-    own_new (cell_at c.args.row.now c.args.v) c.in-Some.new c.args.row.now c.args.v c.better.result c.args.first
-    c.args.beyond c.args.u c.requires.sized c.in-Some.is c.better.ensures.offered
+    own_new (cell_at c.args.row.now c.args.v) c.in-Some.new c.args.row.now c.args.v c.better.result c.args.onward.first
+    c.args.onward.beyond c.args.onward.u c.requires.sized c.in-Some.is c.better.ensures.offered
 
 pub returns-then-not-waits-clause-others : goal.returns-then-not-waits-clause-others
 returns-then-not-waits-clause-others c =

@@ -10,8 +10,8 @@ use Rattle.tn_cycle.specs.declared.kept.Sought.{Sought}
 use Rattle.tn_cycle.specs.declared.cell.Cell.{Cell}
 use Rattle.tn_cycle.specs.Answers.{AreNear, label_in}
 use Rattle.tn_cycle.specs.Cells.{cell_at}
-use Rattle.tn_cycle.specs.Kept.{AllArePast, AreReady, ComesFirst, IsPast, cell_by, every, flag_at, is_ready, label_by, node_in_list}
-use Rattle.tn_cycle.specs.Queue.{AreQueued, IsBefore, IsHeap, IsQueue}
+use Rattle.tn_cycle.specs.Kept.{AllArePast, AreReady, AreWaiting, ComesFirst, IsPast, cell_by, every, flag_at, is_ready, label_by, node_in_list}
+use Rattle.tn_cycle.specs.Queue.{AreQueued}
 use Rattle.tn_cycle.specs.Widths.{most_label}
 use Rattle.tn_cycle.proofs.CellLemmas.{led_room}
 use Rattle.tn_cycle.proofs.CountLemmas.{ready_fewer, waiting, waiting_fewer, waiting_less}
@@ -26,10 +26,10 @@ loop-settled-init g c =
     let fewer : waiting nodes (flag_at c.args.waits.now) < nodes =
     waiting_fewer nodes (flag_at c.args.waits.now) c.args.end c.requires.inside c.requires.shut in
     let queued : AreQueued nodes (flag_at c.args.waits.now) c.args.labels.now c.begin.new.row
-    c.list_waiting-count.new.list c.list_waiting-count.new.places c.list_waiting-count.result =
+    c.list_waiting.new.queue.list.now c.list_waiting.new.queue.places.now c.list_waiting.new.queue.count =
     subst (λ (n : ℕ). AreQueued n (flag_at c.args.waits.now) c.args.labels.now c.begin.new.row
-    c.list_waiting-count.new.list c.list_waiting-count.new.places c.list_waiting-count.result)
-    c.nodes-nodes.ensures c.list_waiting-count.ensures in
+    c.list_waiting.new.queue.list.now c.list_waiting.new.queue.places.now c.list_waiting.new.queue.count)
+    c.nodes-nodes.ensures c.list_waiting.ensures.queued in
     record {
       known = begun nodes (g.C.Costs.arc c.args.costs.now) c.args.end (label_in c.args.labels.now)
           (cell_at c.begin.new.row) (flag_at c.args.waits.now)
@@ -40,10 +40,11 @@ loop-settled-init g c =
       few = omega (
         arith,
         ready_fewer nodes (flag_at c.args.waits.now) (cell_at c.begin.new.row)
-            c.list_waiting-count.new.list c.list_waiting-count.result c.args.end queued.listed c.requires.inside
+            c.list_waiting.new.queue.list.now c.list_waiting.new.queue.count c.args.end queued.listed c.requires.inside
             c.requires.shut,
       );
-      spaced = omega (arith, c.requires.spaced, c.begin.auto.row, c.list_waiting-count.auto.places);
+      places = omega (arith, c.requires.places, c.list_waiting.ensures.list_sized);
+      spaced = omega (arith, c.requires.spaced, c.begin.auto.row, c.list_waiting.ensures.places_sized);
     }
 
 -- a node that waits isn't the end, so that it has a label
@@ -52,14 +53,14 @@ labelled_off : (end nodes places : ℕ) (waits : ℕ → Bool) → waits end ≡
 labelled_off end nodes places waits shut all v inside waiting =
     all v inside (λ e. false≢true (sym shut ∙ subst (λ (z : ℕ). waits z ≡ true) e waiting))
 
-pub list_waiting-count-requires-clause-labelled : goal.list_waiting-count-requires-clause-labelled
-list_waiting-count-requires-clause-labelled g c v inside waiting =
+pub list_waiting-requires-clause-labelled : goal.list_waiting-requires-clause-labelled
+list_waiting-requires-clause-labelled g c v inside waiting =
     labelled_off c.args.end (g.C.Costs.node_count c.args.costs.now) (length c.args.labels.now)
     (flag_at c.args.waits.now) c.requires.shut c.requires.labelled v (omega (arith, inside, c.nodes-nodes.ensures))
     waiting
 
-pub list_waiting-count-requires-clause-room : goal.list_waiting-count-requires-clause-room
-list_waiting-count-requires-clause-room g c v inside x is =
+pub list_waiting-requires-clause-room : goal.list_waiting-requires-clause-room
+list_waiting-requires-clause-room g c v inside x is =
     let begun = c.begin.ensures v (omega (arith, inside, c.nodes-nodes.ensures)) in
     let small = g.met.C.Costs.small c.args.costs.now v c.args.end x (sym (ap (λ (own : Cell). own.cost) begun) ∙ is) in
     record { low = omega (arith, ints, small.low); high = omega (arith, ints, small.high) }
@@ -75,19 +76,16 @@ take_front-requires-clause-few g c =
     let first = c.front_counts.ensures.yes c.if-not-front_counts.false in
     omega (arith, c.loop-settled.invariant.few, first.2.inside, c.requires.few)
 
-pub take_front-requires-clause-queue : goal.take_front-requires-clause-queue
-take_front-requires-clause-queue g c =
+pub take_front-requires-clause-some : goal.take_front-requires-clause-some
+take_front-requires-clause-some g c =
     let first = c.front_counts.ensures.yes c.if-not-front_counts.false in
-    let one_more : c.loop-settled.count - 1 + 1 ≡ c.loop-settled.count = omega (arith, first.2.inside) in
-    subst (IsQueue c.args.labels.now c.loop-settled.row c.loop-settled.list c.loop-settled.places) (sym one_more)
-    c.loop-settled.invariant.queued.queue
+    omega (arith, first.2.inside)
+
+pub take_front-requires-clause-queue : goal.take_front-requires-clause-queue
+take_front-requires-clause-queue g c = c.loop-settled.invariant.queued.queue
 
 pub take_front-requires-clause-heap : goal.take_front-requires-clause-heap
-take_front-requires-clause-heap g c =
-    let first = c.front_counts.ensures.yes c.if-not-front_counts.false in
-    let one_more : c.loop-settled.count - 1 + 1 ≡ c.loop-settled.count = omega (arith, first.2.inside) in
-    subst (IsHeap (IsBefore (label_in c.args.labels.now) (cell_at c.loop-settled.row)) c.loop-settled.list)
-    (sym one_more) c.loop-settled.invariant.queued.heap
+take_front-requires-clause-heap g c = c.loop-settled.invariant.queued.heap
 
 -- the flags once one is taken down
 module _ (waits : List Bool) (u : ℕ) (inside : u < length waits) where
@@ -103,11 +101,11 @@ module _ (waits : List Bool) (u : ℕ) (inside : u < length waits) where
     | inr other ↦ left v other ∙ shut
   ]
 
-pub offer-count-requires-clause-labelled : goal.offer-count-requires-clause-labelled
-offer-count-requires-clause-labelled g c v inside waiting =
+pub offer-requires-clause-labelled : goal.offer-requires-clause-labelled
+offer-requires-clause-labelled g c v inside waiting =
     let nodes = g.C.Costs.node_count c.args.costs.now in
     let first = c.front_counts.ensures.yes c.if-not-front_counts.false in
-    let u = node_in_list c.loop-settled.list 0 in
+    let u = node_in_list c.loop-settled.queue.list.now 0 in
     let own : u < nodes = (c.loop-settled.invariant.queued.listed.each 0 first.2.inside).0 in
     let within : u < length c.loop-settled.waits = omega (
       arith,
@@ -119,8 +117,8 @@ offer-count-requires-clause-labelled g c v inside waiting =
     (still_shut c.loop-settled.waits u within c.args.end c.loop-settled.invariant.known.shut) c.requires.labelled v
     inside waiting
 
-pub offer-count-requires-clause-room : goal.offer-count-requires-clause-room
-offer-count-requires-clause-room g c =
+pub offer-requires-clause-room : goal.offer-requires-clause-room
+offer-requires-clause-room g c =
     let nodes = g.C.Costs.node_count c.args.costs.now in
     let known = c.loop-settled.invariant.known in
     let fewer : c.loop-settled.settled < nodes = omega (arith, c.loop-settled.invariant.fewer) in
@@ -129,18 +127,18 @@ offer-count-requires-clause-room g c =
     (λ x within. omega (arith, known.few x within, fewer))
 
 -- the list without the node that is settled, whose flag is taken down
-pub offer-count-requires-clause-queued : goal.offer-count-requires-clause-queued
-offer-count-requires-clause-queued g c =
+pub offer-requires-clause-queued : goal.offer-requires-clause-queued
+offer-requires-clause-queued g c =
     let nodes = g.C.Costs.node_count c.args.costs.now in
-    let list = c.loop-settled.list in
+    let list = c.loop-settled.queue.list.now in
     let u = node_in_list list 0 in
-    let rest = c.loop-settled.count - 1 in
+    let rest = c.loop-settled.queue.count - 1 in
     let cell = cell_at c.loop-settled.row in
     let waits = flag_at c.loop-settled.waits in
     let now = flag_at (set c.loop-settled.waits u false) in
     let listed = c.loop-settled.invariant.queued.listed in
     let first = c.front_counts.ensures.yes c.if-not-front_counts.false in
-    let one_more : rest + 1 ≡ c.loop-settled.count = omega (arith, first.2.inside) in
+    let one_more : rest + 1 ≡ c.loop-settled.queue.count = omega (arith, first.2.inside) in
     let inside : u < nodes = (listed.each 0 first.2.inside).0 in
     let within : u < length c.loop-settled.waits = omega (
       arith,
@@ -150,13 +148,16 @@ offer-count-requires-clause-queued g c =
     ) in
     let taken = taken_out nodes (λ v. is_ready (waits v) (cell v)) (λ v. is_ready (now v) (cell v)) list 0 rest
     (subst (AreReady nodes waits cell list) (sym one_more) listed) (omega arith)
-    (omega (arith, one_more, c.loop-settled.invariant.few, c.requires.places, c.loop-settled.auto.list))
+    (omega (arith, one_more, c.loop-settled.invariant.few, c.loop-settled.invariant.places))
     (ap (λ (s : Bool). is_ready s (cell u)) (closed c.loop-settled.waits u within))
     (λ v other. ap (λ (s : Bool). is_ready s (cell v)) (left c.loop-settled.waits u within v other)) in
+    let left_over = c.take_front.new.self in
+    let ready_now = λ (v : ℕ). is_ready (now v) (cell v) in
     record {
-      listed = same_waiting c.args.labels.now c.loop-settled.row c.take_front.new.list c.take_front.new.places rest
-          c.take_front.ensures.queue nodes (λ v. is_ready (now v) (cell v)) (set list 0 (node_in_list list rest)) taken
-          c.take_front.ensures.same;
+      listed = same_waiting c.args.labels.now c.loop-settled.row left_over.list.now left_over.places.now left_over.count
+          c.take_front.ensures.queue nodes ready_now (set list 0 (node_in_list list left_over.count))
+          (subst (λ (n : ℕ). AreWaiting nodes ready_now (set list 0 (node_in_list list n)) n)
+          (sym c.take_front.ensures.count) taken) c.take_front.ensures.same;
       queue = c.take_front.ensures.queue;
       heap = c.take_front.ensures.heap;
     }
@@ -164,7 +165,7 @@ offer-count-requires-clause-queued g c =
 pub loop-settled-preserved : goal.loop-settled-preserved
 loop-settled-preserved g c =
     let nodes = g.C.Costs.node_count c.args.costs.now in
-    let list = c.loop-settled.list in
+    let list = c.loop-settled.queue.list.now in
     let u = node_in_list list 0 in
     let label = label_in c.args.labels.now in
     let cell = cell_at c.loop-settled.row in
@@ -172,7 +173,7 @@ loop-settled-preserved g c =
     let now = flag_at (set c.loop-settled.waits u false) in
     let first = c.front_counts.ensures.yes c.if-not-front_counts.false in
     let chosen : ComesFirst nodes label cell waits u first.0 first.1 =
-    listed_first nodes label cell waits list c.loop-settled.count c.loop-settled.invariant.queued.listed 0 first.0
+    listed_first nodes label cell waits list c.loop-settled.queue.count c.loop-settled.invariant.queued.listed 0 first.0
     first.1 first.2 in
     let within : u < length c.loop-settled.waits = omega (
       arith,
@@ -184,25 +185,31 @@ loop-settled-preserved g c =
     waiting_less nodes waits now u chosen.inside chosen.waiting (closed c.loop-settled.waits u within)
     (left c.loop-settled.waits u within) in
     let known = known_next nodes (g.C.Costs.arc c.args.costs.now) c.args.end label
-    (g.met.C.Costs.between_nodes c.args.costs.now) c.requires.keeps cell (cell_at c.offer-count.new.row) waits now
+    (g.met.C.Costs.between_nodes c.args.costs.now) c.requires.keeps cell (cell_at c.offer.new.row) waits now
     c.loop-settled.settled u first.0 first.1 c.loop-settled.invariant.known chosen
     (closed c.loop-settled.waits u within) (left c.loop-settled.waits u within)
-    c.offer-count.ensures.offered in
+    c.offer.ensures.offered in
     record {
       known = known;
       fewer = omega (arith, less, c.loop-settled.invariant.fewer);
-      queued = c.offer-count.ensures.queued;
+      queued = c.offer.ensures.queued;
       few = omega (
         arith,
-        ready_fewer nodes now (cell_at c.offer-count.new.row) c.offer-count.new.list
-            c.offer-count.result c.args.end c.offer-count.ensures.queued.listed c.requires.inside known.shut,
+        ready_fewer nodes now (cell_at c.offer.new.row) c.offer.new.queue.list.now
+            c.offer.new.queue.count c.args.end c.offer.ensures.queued.listed c.requires.inside known.shut,
+      );
+      places = omega (
+        arith,
+        c.loop-settled.invariant.places,
+        c.take_front.ensures.list_sized,
+        c.offer.ensures.list_sized,
       );
       spaced = omega (
         arith,
         c.loop-settled.invariant.spaced,
-        c.take_front.auto.places,
-        c.offer-count.auto.row,
-        c.offer-count.auto.places,
+        c.take_front.ensures.places_sized,
+        c.offer.auto.row,
+        c.offer.ensures.places_sized,
       );
     }
 
@@ -240,35 +247,35 @@ ready_some false own is = absurd (false≢true is)
 
 pub front_counts-requires-clause-reached : goal.front_counts-requires-clause-reached
 front_counts-requires-clause-reached g c i inside =
-    let at = node_in_list c.loop-settled.list i in
+    let at = node_in_list c.loop-settled.queue.list.now i in
     ready_some (flag_at c.loop-settled.waits at) (cell_at c.loop-settled.row at)
     (c.loop-settled.invariant.queued.listed.each i inside).1
 
-pub list_waiting-count-requires-clause-sized : goal.list_waiting-count-requires-clause-sized
-list_waiting-count-requires-clause-sized g c =
+pub list_waiting-requires-clause-sized : goal.list_waiting-requires-clause-sized
+list_waiting-requires-clause-sized g c =
     omega (arith, c.nodes-nodes.ensures, c.requires.sized, c.begin.auto.row)
 
-pub offer-count-requires-clause-counted : goal.offer-count-requires-clause-counted
-offer-count-requires-clause-counted g c =
+pub offer-requires-clause-counted : goal.offer-requires-clause-counted
+offer-requires-clause-counted g c =
     let known = c.loop-settled.invariant.known in
-    let u = node_in_list c.loop-settled.list 0 in
+    let u = node_in_list c.loop-settled.queue.list.now 0 in
     let first = c.front_counts.ensures.yes c.if-not-front_counts.false in
     let own = (c.loop-settled.invariant.queued.listed.each 0 first.2.inside).0 in
     omega (arith, known.few u own, c.loop-settled.invariant.fewer, c.requires.few)
 
-pub offer-count-requires-clause-places : goal.offer-count-requires-clause-places
-offer-count-requires-clause-places g c =
-    omega (arith, c.requires.places, c.loop-settled.auto.list, c.take_front.auto.list)
+pub offer-requires-clause-places : goal.offer-requires-clause-places
+offer-requires-clause-places g c =
+    omega (arith, c.loop-settled.invariant.places, c.take_front.ensures.list_sized)
 
-pub offer-count-requires-clause-settled : goal.offer-count-requires-clause-settled
-offer-count-requires-clause-settled g c =
+pub offer-requires-clause-settled : goal.offer-requires-clause-settled
+offer-requires-clause-settled g c =
     let first = c.front_counts.ensures.yes c.if-not-front_counts.false in
     (c.loop-settled.invariant.queued.listed.each 0 first.2.inside).0
 
-pub offer-count-requires-clause-shut : goal.offer-count-requires-clause-shut
-offer-count-requires-clause-shut g c =
+pub offer-requires-clause-shut : goal.offer-requires-clause-shut
+offer-requires-clause-shut g c =
     let first = c.front_counts.ensures.yes c.if-not-front_counts.false in
-    let u = node_in_list c.loop-settled.list 0 in
+    let u = node_in_list c.loop-settled.queue.list.now 0 in
     let own = (c.loop-settled.invariant.queued.listed.each 0 first.2.inside).0 in
     let within : u < length c.loop-settled.waits = omega (
       arith,
@@ -278,26 +285,21 @@ offer-count-requires-clause-shut g c =
     ) in
     still_shut c.loop-settled.waits u within c.args.end c.loop-settled.invariant.known.shut
 
-pub offer-count-requires-clause-sized : goal.offer-count-requires-clause-sized
-offer-count-requires-clause-sized g c =
+pub offer-requires-clause-sized : goal.offer-requires-clause-sized
+offer-requires-clause-sized g c =
     omega (arith, c.requires.sized, c.begin.auto.row, c.loop-settled.auto.row)
 
-pub offer-count-requires-clause-spaced : goal.offer-count-requires-clause-spaced
-offer-count-requires-clause-spaced g c = omega (arith, c.loop-settled.invariant.spaced, c.take_front.auto.places)
+pub offer-requires-clause-spaced : goal.offer-requires-clause-spaced
+offer-requires-clause-spaced g c = omega (arith, c.loop-settled.invariant.spaced, c.take_front.ensures.places_sized)
 
-pub offer-count-requires-clause-waits_sized : goal.offer-count-requires-clause-waits_sized
-offer-count-requires-clause-waits_sized g c =
+pub offer-requires-clause-waits_sized : goal.offer-requires-clause-waits_sized
+offer-requires-clause-waits_sized g c =
     omega (
       arith,
       c.requires.waits_sized,
       c.loop-settled.auto.waits,
-      length-set c.loop-settled.waits (node_in_list c.loop-settled.list 0) false,
+      length-set c.loop-settled.waits (node_in_list c.loop-settled.queue.list.now 0) false,
     )
-
-pub overflow_sub-count : goal.overflow_sub-count
-overflow_sub-count g c =
-    let first = c.front_counts.ensures.yes c.if-not-front_counts.false in
-    omega (arith, first.2.inside)
 
 pub returns : goal.returns
 returns g c =
@@ -327,6 +329,6 @@ returns-then-not-front_counts g c =
       known = c.loop-settled.invariant.known;
       past =
           subst (λ (z : ℤ). AllArePast nodes z c.args.sought label cell (cell c.args.end) waits) c.requires.based
-          (past_listed nodes c.loop-settled.count c.args.base c.args.sought label cell (cell c.args.end) waits
-          c.loop-settled.list c.loop-settled.invariant.queued.listed past);
+          (past_listed nodes c.loop-settled.queue.count c.args.base c.args.sought label cell (cell c.args.end) waits
+          c.loop-settled.queue.list.now c.loop-settled.invariant.queued.listed past);
     }

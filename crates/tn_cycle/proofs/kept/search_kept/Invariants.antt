@@ -12,7 +12,9 @@ invariant-loop-settled g l = record {
   known : IsUnderWay (g.C.Costs.node_count l.costs) (g.C.Costs.arc l.costs) l.end (label_in l.labels) (cell_at l.row)
       (flag_at l.waits) l.settled;
   fewer : l.settled + waiting (g.C.Costs.node_count l.costs) (flag_at l.waits) < g.C.Costs.node_count l.costs;
-  queued : AreQueued (g.C.Costs.node_count l.costs) (flag_at l.waits) l.labels l.row l.list l.places l.count;
-  few : l.count ≤ g.C.Costs.node_count l.costs;
-  spaced : length l.row ≤ length l.places;
+  queued : AreQueued (g.C.Costs.node_count l.costs) (flag_at l.waits) l.labels l.row l.queue.list.now
+      l.queue.places.now l.queue.count;
+  few : l.queue.count ≤ g.C.Costs.node_count l.costs;
+  places : g.C.Costs.node_count l.costs ≤ length l.queue.list.now;
+  spaced : length l.row ≤ length l.queue.places.now;
 }
