@@ -1,7 +1,7 @@
 //! What searches for cycles and for labels answer.
 
 /// What `Finder::through` and `Finder::least_through` answer.
-#[derive(Clone, Copy, Debug, PartialEq, Eq)]
+#[derive(Clone, Copy, PartialEq, Eq)]
 pub enum Path {
     /// No cycle through the node counts: none has a negative cost, or there is none.
     None,
@@ -15,7 +15,7 @@ pub enum Path {
 }
 
 /// What `Finder::labels` answers.
-#[derive(Clone, Copy, Debug, PartialEq, Eq)]
+#[derive(Clone, Copy, PartialEq, Eq)]
 pub enum Labels {
     /// No cycle is negative, and the labels may be read.
     Feasible,

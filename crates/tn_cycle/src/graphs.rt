@@ -121,14 +121,6 @@ impl<C: Costs, const W: usize> Looked<'_, C, W> {
         v == self.node || self.among.admits(v)
     }
 
-    /// Whether it has the node, which isn't its own one.
-    fn has_other(&self, v: u32) -> bool
-        requires { v ≤ self.now.among.null }
-        ensures { IsOther self.now.among.null self.now.node self.now.among.admitted.now v result }
-    {
-        v != self.node && self.among.admits(v)
-    }
-
     /// Marks the nodes that it has but for its own one.
     pub(crate) fn mark_others(&self, marks: &mut [bool])
         requires { self.now.among.null < length marks.old }
@@ -136,7 +128,7 @@ impl<C: Costs, const W: usize> Looked<'_, C, W> {
             → IsOther self.now.among.null self.now.node self.now.among.admitted.now v (flag_at marks.new v) }
     {
         for v in 0..self.nodes() {
-            marks[v as usize] = self.has_other(v);
+            marks[v as usize] = v != self.node && self.among.admits(v);
         }
     }
 }

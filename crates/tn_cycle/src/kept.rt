@@ -57,15 +57,6 @@ struct Onward {
     beyond: Cell,
 }
 
-/// The sum of two costs.
-fn total(first: i128, rest: i128) -> i128
-    requires first { IsAtMost first most_cost }
-    requires rest { IsAtMost rest most_walk_cost }
-    ensures { result ≡ first +ℤ rest }
-{
-    first + rest
-}
-
 /// The cost of going on over an arc.
 fn extended(first: Option<i128>, rest: Option<i128>) -> Option<i128>
     requires first { ForSome first (λ a. IsAtMost a most_cost) }
@@ -73,7 +64,7 @@ fn extended(first: Option<i128>, rest: Option<i128>) -> Option<i128>
     ensures { result ≡ both first rest }
 {
     match (first, rest) {
-        (Some(first), Some(rest)) => Some(total(first, rest)),
+        (Some(first), Some(rest)) => Some(first + rest),
         _ => None,
     }
 }
@@ -106,15 +97,6 @@ fn list_waiting(labels: &[i128], waits: &[bool], nodes: u32, row: &[Cell], queue
             queue.push(labels, row, v);
         }
     }
-}
-
-/// What a key has over the label of the end.
-fn over(key: i128, base: i128) -> i128
-    requires key { IsAtMost key (4 * most_label) }
-    requires base { IsAtMost base (2 * most_label) }
-    ensures { result ≡ key -ℤ base }
-{
-    key - base
 }
 
 /// Whether a cell's walk costs at most so much, and where it costs just that, has at most so many nodes inside.
@@ -181,7 +163,7 @@ fn front_counts(
     !is_past(
         sought,
         row[end as usize],
-        over(key, base),
+        key - base,
         row[front as usize].inner_nodes,
     )
 }

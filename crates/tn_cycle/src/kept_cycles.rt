@@ -221,13 +221,6 @@ fn node_label<C: Costs>(costs: &C, node: u32, labels: &[i128]) -> i128
     }
 }
 
-/// Whether a number is above another one.
-fn is_above(first: i128, second: i128) -> bool
-    ensures { result ≡ false → first ≤ℤ second }
-{
-    second < first
-}
-
 /// Whether the labels of its begin and its end break an arc, where there is one.
 fn is_broken(begin: i128, cost: Option<i128>, end: i128) -> bool
     requires begin { IsAtMost begin (2 * most_label) }
@@ -235,7 +228,7 @@ fn is_broken(begin: i128, cost: Option<i128>, end: i128) -> bool
     ensures { (c : ℤ) → result ≡ false → cost ≡ Some c → end ≤ℤ (begin +ℤ c) }
 {
     match cost {
-        Some(cost) => is_above(end, gain(begin, cost)),
+        Some(cost) => gain(begin, cost) < end,
         None => false,
     }
 }

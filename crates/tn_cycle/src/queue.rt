@@ -23,22 +23,13 @@ pub(crate) struct Queue<'a> {
     pub(crate) count: u32,
 }
 
-/// The key of a node, by the cost of its walk and its label.
-fn key(cost: i128, label: i128) -> i128
-    requires cost { IsAtMost cost (2 * most_walk_cost) }
-    requires label { IsAtMost label (2 * most_label) }
-    ensures { result ≡ cost +ℤ label }
-{
-    cost + label
-}
-
 /// The key of a node.
 pub(crate) fn key_at(labels: &[i128], row: &[Cell], v: u32) -> i128
     requires near { AreNear (2 * most_label) labels.now }
     requires has { HasKey labels.now row.now v }
     ensures { result ≡ key_of (label_in labels.now) (cell_at row.now) v }
 {
-    key(row[v as usize].cost.unwrap_or(0), labels[v as usize])
+    row[v as usize].cost.unwrap_or(0) + labels[v as usize]
 }
 
 /// Whether the first key isn't after the second: of keys that are the same, that of fewer arcs comes first.

@@ -26,14 +26,6 @@ pub(crate) fn list_way(row: &[Cell], v: u32, end: u32, path: &mut [u32]) -> u32
     count + 1
 }
 
-/// Turns the first nodes of the list round.
-fn turn(path: &mut [u32], count: u32)
-    requires { count ≤ length path.old }
-    ensures { take count path.new ≡ reverse (take count path.old) }
-{
-    path[..count as usize].reverse();
-}
-
 /// Lists the nodes of the walk of `v`, its two ends among them, from `v` on or turned round, and gives their number.
 pub(crate) fn list_walk(row: &[Cell], v: u32, end: u32, turns: bool, path: &mut [u32]) -> u32
     requires inside { v < length row.now }
@@ -44,7 +36,7 @@ pub(crate) fn list_walk(row: &[Cell], v: u32, end: u32, turns: bool, path: &mut 
 {
     let count = list_way(row, v, end, path) + 1;
     if turns {
-        turn(path, count);
+        path[..count as usize].reverse();
     }
     count
 }

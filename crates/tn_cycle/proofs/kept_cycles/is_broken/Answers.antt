@@ -13,7 +13,6 @@ returns-in-Some c x kept is =
     let cost_fits : SFits w128 c.in-Some.cost = search rules in
     let gain_fits : SFits w128 c.gain.result = search rules in
     let gain = simp to_z-of_z at c.gain.ensures in
-    let up_to = c.is_above.ensures kept in
-    let below = simp to_z-of_z at up_to in
+    let kept_is = simp to_z-of_z at kept in
     let same : c.in-Some.cost ≡ x = same_Some c.in-Some.cost x (sym c.in-Some.is ∙ is) in
-    omega (arith, ints, gain, below, same)
+    omega (arith, ints, gain, kept_is, same)
