@@ -46,15 +46,6 @@ fn read_cycle(row: &[Cell], node: u32, cap: Option<i128>, path: &mut [u32]) -> P
     }
 }
 
-/// The greater of two numbers.
-fn greater(first: i128, second: i128) -> i128
-    ensures first { first ≤ℤ result }
-    ensures second { second ≤ℤ result }
-    ensures one { (result ≡ first) ⊎ (result ≡ second) }
-{
-    if first < second { second } else { first }
-}
-
 /// The greater of a number and another one that may not be there.
 fn greater_of(first: Option<i128>, second: i128) -> i128
     ensures first { (b : ℤ) → first ≡ Some b → b ≤ℤ result }
@@ -62,7 +53,7 @@ fn greater_of(first: Option<i128>, second: i128) -> i128
     ensures one { (first ≡ Some result) ⊎ (result ≡ second) }
 {
     match first {
-        Some(first) => greater(first, second),
+        Some(first) => first.max(second),
         None => second,
     }
 }
@@ -93,7 +84,7 @@ fn raised(v: usize, node: usize, label: i128, cost: Option<i128>, limit: i128) -
     ensures others { v ≢ node → IsRaised label cost limit result }
 {
     match cost {
-        Some(cost) if v != node => greater(label, lack(limit, cost)),
+        Some(cost) if v != node => label.max(lack(limit, cost)),
         _ => label,
     }
 }

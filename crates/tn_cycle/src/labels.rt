@@ -1,21 +1,12 @@
 //! Labels read off a search from nothing.
 
-ghost use Rattle.std.specs.Prelude.{◌≡◌, ℕ, ◌<◌, ◌≤◌, ◌^◌, ℤ, pos, ◌≤ℤ◌, ◌-ℤ◌, length, unwrap_or};
+ghost use Rattle.std.specs.Prelude.{◌≡◌, ℕ, ◌<◌, ◌≤◌, ◌^◌, pos, ◌-ℤ◌, length, unwrap_or};
 ghost use Rattle.tn_base.specs.Arcs.{IsAtMost};
 ghost use Rattle.tn_cycle.specs.Cells.{HasRoom, cell_at};
 ghost use Rattle.tn_cycle.specs.Answers.{IsLowestCost, label_in};
 ghost use Rattle.tn_cycle.specs.Widths.{most_walk_cost};
 
 use crate::cell::Cell;
-
-/// The lesser of two costs.
-fn lesser(first: i128, second: i128) -> i128
-    ensures first { result ≤ℤ first }
-    ensures second { result ≤ℤ second }
-    ensures greatest { (bound : ℤ) → bound ≤ℤ first → bound ≤ℤ second → bound ≤ℤ result }
-{
-    if first < second { first } else { second }
-}
 
 /// The lowest cost of the first cells, or 0 where none is below.
 pub(crate) fn lowest_cost(row: &[Cell], nodes: u32) -> i128
@@ -24,7 +15,7 @@ pub(crate) fn lowest_cost(row: &[Cell], nodes: u32) -> i128
 {
     let mut lowest = 0;
     for v in 0..nodes {
-        lowest = lesser(lowest, row[v as usize].cost.unwrap_or(0));
+        lowest = lowest.min(row[v as usize].cost.unwrap_or(0));
     }
     lowest
 }

@@ -4,13 +4,12 @@
 //! the list never comes after the two at twice that place and one or two more. Each listed node has its place written
 //! down, so that it is found where its walk has become better.
 
-ghost use Rattle.std.specs.Prelude.{◌≡◌, ◌≢◌, ℕ, ◌+◌, ◌-◌, ◌*◌, ◌<◌, ◌≤◌, ◌+ℤ◌, true, false, Some, None, length, set};
-ghost use Rattle.tn_base.specs.Arcs.{IsAtMost};
+ghost use Rattle.std.specs.Prelude.{◌≡◌, ◌≢◌, ℕ, ◌+◌, ◌-◌, ◌*◌, ◌<◌, ◌≤◌, true, false, Some, None, length, set};
 ghost use Rattle.tn_cycle.specs.Answers.{AreNear, label_in};
 ghost use Rattle.tn_cycle.specs.Cells.{cell_at};
 ghost use Rattle.tn_cycle.specs.Kept.{IsNotAfter, node_in_list};
 ghost use Rattle.tn_cycle.specs.Queue.{HasKey, HaveSameNodes, IsAbove, IsBefore, IsFirstBelow, IsHeap, IsHeapAbove, IsHeapBelow, IsQueue, key_of};
-ghost use Rattle.tn_cycle.specs.Widths.{most_graph_nodes, most_label, most_walk_cost};
+ghost use Rattle.tn_cycle.specs.Widths.{most_graph_nodes, most_label};
 
 use crate::cell::Cell;
 
