@@ -86,12 +86,12 @@ fn list_waiting(labels: &[i128], waits: &[bool], nodes: u32, row: &[Cell], queue
     requires spaced { length row.now ≤ length queue.old.places.now }
     requires few { nodes ≤ most_graph_nodes + 1 }
     requires room { HasRoom nodes (cell_at row.now) }
-    requires empty { queue.old.count ≡ 0 }
     ensures queued { AreQueued nodes (flag_at waits.now) labels.now row.now queue.new.list.now queue.new.places.now
         queue.new.count }
     ensures list_sized { length queue.new.list.now ≡ length queue.old.list.now }
     ensures places_sized { length queue.new.places.now ≡ length queue.old.places.now }
 {
+    queue.count = 0;
     for v in 0..nodes {
         if is_ready(waits[v as usize], row[v as usize]) {
             queue.push(labels, row, v);
@@ -314,8 +314,7 @@ fn offer<C: Costs>(
 /// the lowest nodes (Dijkstra 1959): a node's key is the cost of its walk and its label. Labels keep the arcs, so that
 /// a key is never below that of the node it goes on over, and nodes are settled in the order of their keys. Where a
 /// cycle is sought, the search stops once no waiting node can lead to a better walk from the end to itself, or to one
-/// that costs less than the cap. The nodes that wait and have a walk stand at the front of
-/// `list`, as a heap.
+/// that costs less than the cap. The nodes that wait and have a walk stand at the front of `list`, as a heap.
 pub(crate) fn search_kept<C: Costs>(
     costs: &C,
     end: u32,
