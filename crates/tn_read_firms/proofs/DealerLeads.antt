@@ -23,7 +23,7 @@ use Rattle.tn_said.specs.declared.place.PlaceStep.{PlaceStep}
 use Rattle.tn_said.specs.declared.place.PlaceStep.TheVariants.{Index}
 use Rattle.tn_names.proofs.NameLemmas.{push_cases}
 use Rattle.tn_read_shapes.specs.Reading.{each, holds}
-use Rattle.tn_read_shapes.specs.Shapes.{number_at, optional_list_at}
+use Rattle.tn_read_shapes.specs.Shapes.{number_at, optional_list_at, three_at}
 use Rattle.tn_read_references.proofs.EntryLeads.{number_within}
 use Rattle.tn_read_shapes.proofs.ShapeLeads.{number_leads}
 use Rattle.tn_read_shapes.proofs.LeadLemmas.{Leads, leads_ok, leads_bind, leads_after, leads_each, leads_holds, leads_wanted, leads_as, leads_both}
@@ -31,7 +31,7 @@ use Rattle.tn_read_references.specs.Ordered.{Listed, AreTrades, AreInOrder, side
 use Rattle.tn_read_references.specs.References.{position_on, own_position}
 use Rattle.tn_read_references.proofs.EndsLemmas.{side_at_position}
 use Rattle.tn_read_references.proofs.ReferenceLeads.{position_leads}
-use Rattle.tn_read_firms.specs.Dealers.{three_at, pairs_place, pair_place, pair_of, is_same_pair, one_pair, dealer_of}
+use Rattle.tn_read_firms.specs.Dealers.{pairs_place, pair_place, pair_of, is_same_pair, one_pair, dealer_of}
 use Rattle.tn_read_firms.specs.Laws.{IsDealerFirm}
 
 -- ---- which side a position is on

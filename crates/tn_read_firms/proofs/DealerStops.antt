@@ -4,28 +4,21 @@ use Rattle.std.specs.Prelude.{codes, not}
 use Rattle.std.specs.List.{list_any}
 use Rattle.serde_json.specs.Data.{Data}
 use Rattle.serde_json.specs.Find.{get}
-use Rattle.tn_said.specs.declared.fault.FaultKind.TheVariants.{Shape, SamePair}
+use Rattle.tn_said.specs.declared.fault.FaultKind.TheVariants.{SamePair}
 use Rattle.tn_base.specs.declared.side.Side.TheVariants.{Buy, Sell}
 use Rattle.tn_dealer.specs.declared.pair.Pair.{Pair}
 use Rattle.tn_dealer.specs.Pairs.{dealer_firm}
 use Rattle.tn_model.specs.Limits.{most_own_trades}
-use Rattle.tn_said.specs.declared.place.PlaceStep.{PlaceStep}
 use Rattle.tn_said.specs.declared.place.PlaceStep.TheVariants.{Index}
 use Rattle.tn_read_shapes.specs.Reading.{each, holds}
-use Rattle.tn_read_shapes.specs.Shapes.{list_at, optional_list_at, number_at}
-use Rattle.tn_read_shapes.proofs.StopLemmas.{IsPlain, IsPlainPlace, StopsPlainly, plain_holds, plain_wanted, stops_bind, stops_each, stops_ok}
-use Rattle.tn_read_shapes.proofs.ShapeStops.{list_stops, optional_list_stops, number_stops}
+use Rattle.tn_read_shapes.specs.Shapes.{optional_list_at, number_at, three_at}
+use Rattle.tn_read_shapes.proofs.StopLemmas.{IsPlain, IsPlainPlace, StopsPlainly, plain_holds, stops_bind, stops_each, stops_ok}
+use Rattle.tn_read_shapes.proofs.ShapeStops.{optional_list_stops, number_stops, three_stops}
 use Rattle.tn_read_references.specs.Ordered.{Listed, AreTrades, sides_of}
 use Rattle.tn_read_references.specs.References.{own_position}
 use Rattle.tn_read_references.proofs.ReferenceStops.{own_position_stops}
-use Rattle.tn_read_firms.specs.Dealers.{three_of, three_at, pairs_place, pair_place, pair_of, is_same_pair, one_pair, dealer_of}
+use Rattle.tn_read_firms.specs.Dealers.{pairs_place, pair_place, pair_of, is_same_pair, one_pair, dealer_of}
 use Rattle.tn_read_firms.proofs.DealerLeads.{AreNew, few_new, no_pairs, one_pair_leads}
-
-three_stops : (place : List PlaceStep) (plain : IsPlainPlace place) (value : Data) → StopsPlainly (three_at place value)
-unfolding three_at
-three_stops place plain value =
-    stops_bind IsPlain (list_at place (Some value)) _ (list_stops place plain (Some value))
-    (λ items. plain_wanted Shape place (three_of items) refl plain)
 
 module _ (listed : Listed) (trades : AreTrades listed) (f : ℕ) (near : f ≤ 16384) (few : length (sides_of listed.ends f)
     ≤ most_own_trades) where

@@ -14,5 +14,4 @@ pub mod FirmLeads
 pub mod ShownLemmas
 pub mod FirmStops
 pub mod OwnLemmas
-pub mod ThreeLemmas
 pub mod RoomLemmas

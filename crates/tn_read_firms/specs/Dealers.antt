@@ -1,10 +1,10 @@
 -- Dealers: pairs of a purchase and a sale, each with what it costs.
-use Rattle.std.specs.Prelude.{ℕ, ◌++◌, [], ◌∷◌, ◌==◌, ◌&&◌, not, Bool, List, length, codes, Option, Some, None, Result, Ok}
+use Rattle.std.specs.Prelude.{ℕ, ◌++◌, [], ◌∷◌, ◌==◌, ◌&&◌, not, Bool, List, length, codes, Some, Result, Ok}
 use Rattle.std.specs.List.{list_any}
-use Rattle.serde_json.specs.Data.{Data, Items, no_items, item}
+use Rattle.serde_json.specs.Data.{Data}
 use Rattle.serde_json.specs.Find.{get}
 use Rattle.tn_base.specs.Firm.{Firm}
-use Rattle.tn_said.specs.declared.fault.FaultKind.TheVariants.{Shape, SamePair}
+use Rattle.tn_said.specs.declared.fault.FaultKind.TheVariants.{SamePair}
 use Rattle.tn_base.specs.declared.side.Side.TheVariants.{Buy, Sell}
 use Rattle.tn_dealer.specs.declared.pair.Pair.{Pair}
 use Rattle.tn_dealer.specs.Pairs.{dealer_firm}
@@ -12,20 +12,10 @@ use Rattle.tn_said.specs.declared.place.PlaceStep.{PlaceStep}
 use Rattle.tn_said.specs.declared.place.PlaceStep.TheVariants.{Index, Key}
 use Rattle.tn_said.specs.declared.place.Word.TheVariants.{Firms, Pairs}
 use Rattle.tn_said.specs.declared.said.Fault.{Fault}
-use Rattle.tn_read_shapes.specs.Reading.{◌>>=◌, each, wanted, holds}
-use Rattle.tn_read_shapes.specs.Shapes.{list_at, optional_list_at, number_at}
+use Rattle.tn_read_shapes.specs.Reading.{◌>>=◌, each, holds}
+use Rattle.tn_read_shapes.specs.Shapes.{optional_list_at, number_at, three_at}
 use Rattle.tn_read_references.specs.Ordered.{Listed, sides_of}
 use Rattle.tn_read_references.specs.References.{own_position}
-
-abbrev pub three_of : Items → Option (Data × Data × Data)
-three_of (item d (item e (item g no_items))) = Some (d, e, g)
-three_of _ = None
-
--- a list of three
-unfoldable pub three_at : List PlaceStep → Data → Result (Data × Data × Data) Fault
-three_at place value = do
-  items ← list_at place (Some value)
-  wanted Shape place (three_of items)
 
 abbrev pub pairs_place : ℕ → List PlaceStep
 pairs_place f = Key Firms ∷ Index f ∷ Key Pairs ∷ []

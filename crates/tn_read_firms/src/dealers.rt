@@ -1,11 +1,11 @@
 //! Dealers.
 
-ghost use Rattle.std.specs.Prelude.{◌≡◌, ◌*◌, ◌≤◌, ◌++◌, ◌∷◌, [], length, option_map};
+ghost use Rattle.std.specs.Prelude.{◌≡◌, ◌*◌, ◌≤◌, ◌++◌, ◌∷◌, [], length};
 ghost use Rattle.std.specs.List.{list_any};
 ghost use Rattle.serde_json.specs.View.{view, items_view};
 ghost use Rattle.tn_dealer.specs.Firms.{firm_of};
 ghost use Rattle.tn_model.specs.Limits.{most_own_trades};
-ghost use Rattle.tn_read_firms.specs.Dealers.{dealer_of, is_same_pair, one_pair, pair_of, three_at, three_of};
+ghost use Rattle.tn_read_firms.specs.Dealers.{dealer_of, is_same_pair, one_pair, pair_of};
 ghost use Rattle.tn_read_references.specs.Ordered.{AreTrades, sides_of};
 ghost use Rattle.tn_read_shapes.specs.Reading.{Gives, each};
 
@@ -14,9 +14,9 @@ use std::alloc::Global;
 use tn_base::Side;
 use tn_dealer::{Dealer, Pair};
 use tn_read_references::{Head, own_position, sides_of};
-use tn_read_shapes::{ReadError, fault, list, member, number, optional_list, require};
+use tn_read_shapes::{ReadError, member, number, optional_list, require, three};
 use tn_said::PlaceStep::{Index, Key};
-use tn_said::{FaultKind, PlaceStep, Word};
+use tn_said::{FaultKind, Word};
 
 /// The dealer `f`.
 #[tactic(auto, unfolding(crate::specs::Dealers::dealer_of))]
@@ -98,32 +98,4 @@ fn pair_of(alloc: Global, head: &Head, f: u32, k: u32, entry: &Value) -> Result<
     let place = [Key(Word::Firms), f_step, Key(Word::Pairs), k_step, Index(2)];
     let cost = number(alloc, head.limits().amount, Some(cost), &place)?;
     Ok(Pair { buy, sell, cost })
-}
-
-/// The three items of a list of three; another value is a fault of shape.
-#[tactic(auto, unfolding(crate::specs::Dealers::three_at))]
-fn three<'a>(
-    alloc: Global,
-    value: &'a Value,
-    place: &[PlaceStep],
-) -> Result<(&'a Value, &'a Value, &'a Value), ReadError>
-    ensures { Gives (λ p. (view p.0.now, view p.1.now, view p.2.now)) result (three_at place.now (view value.now)) }
-{
-    let items = list(alloc, Some(value), place)?;
-    match three_of(items) {
-        Some(three) => Ok(three),
-        None => Err(fault(alloc, FaultKind::Shape, place)),
-    }
-}
-
-fn three_of(items: &[Value]) -> Option<(&Value, &Value, &Value)>
-    ensures { option_map (λ p. (view p.0.now, view p.1.now, view p.2.now)) result ≡ three_of (items_view items.now) }
-{
-    match items {
-        [] => None,
-        [_] => None,
-        [_, _] => None,
-        [one, two, three] => Some((one, two, three)),
-        [_, _, _, _, ..] => None,
-    }
 }
