@@ -18,7 +18,7 @@ use crate::pool::together;
 use crate::replayed::Replayed;
 use std::alloc::Global;
 use tn_base::OutOfMemory;
-use tn_market::{Contract, Contracts, Market, Oracle, Outcome, Room};
+use tn_market::{Contract, Contracts, Market, Oracle, Outcome};
 use tn_residual::contract_price;
 use tn_said::Reason;
 
@@ -88,7 +88,6 @@ fn first_of_pool<V: Oracle>(
     over: i128,
     offers: &Contracts,
     pool: &Contracts,
-    room: &mut Room,
 ) -> Option<(u32, u32)>
     requires limits { IsWithinLimits V.firm V.limit market.now }
     requires outcome { IsOutcomeOf market.now.trades outcome.now.over outcome.now.contracts }
@@ -99,7 +98,7 @@ fn first_of_pool<V: Oracle>(
 {
     let scale = common(outcome.over, over);
     for f in 0..market.firms() {
-        if let Some(trade) = first_left(market, pool, scale, offers.len(), f, room) {
+        if let Some(trade) = first_left(market, pool, scale, offers.len(), f) {
             return Some((f, trade));
         }
     }
@@ -120,9 +119,8 @@ fn first_to_leave<V: Oracle>(
     requires over { IsOverWithin over }
     ensures { IfOk result (network_of V.firm market.now FindsLeaver outcome.now over offers.now) }
 {
-    let mut room = Room::new(alloc)?;
     let pool = together(alloc, over, offers, outcome)?;
-    Ok(first_of_pool(market, outcome, over, offers, &pool, &mut room))
+    Ok(first_of_pool(market, outcome, over, offers, &pool))
 }
 
 /// Decides a claim that contracts over a denominator block an outcome. It fails only where memory runs out.

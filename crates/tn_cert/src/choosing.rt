@@ -11,7 +11,7 @@ ghost use Rattle.tn_market.specs.NetworkOf.{network_of};
 
 use crate::least::earlier;
 use crate::terms::terms_of;
-use tn_market::{Contracts, Ends, Market, Oracle, Room};
+use tn_market::{Contracts, Ends, Market, Oracle};
 
 /// The greatest utility that firm `f` has by a part of the contracts without the one that is left out. The search
 /// begins at all of these. It takes no memory.
@@ -21,7 +21,6 @@ fn greatest_utility<V: Oracle>(
     scale: i128,
     left_out: Option<usize>,
     f: u32,
-    room: &mut Room,
 ) -> i128
     requires limits { IsWithinLimits V.firm V.limit market.now }
     requires network { network_of V.firm market.now IsNetwork }
@@ -36,7 +35,7 @@ fn greatest_utility<V: Oracle>(
     let terms = terms_of(market, contracts, left_out, f);
     let firm = market.firm(f);
     let prices = &terms.prices[..firm.trades() as usize];
-    let best = firm.best_from(terms.free, terms.free, scale, prices, room);
+    let best = firm.best_from(terms.free, terms.free, scale, prices);
     best.1
 }
 
@@ -47,7 +46,6 @@ fn may_leave<V: Oracle>(
     scale: i128,
     k: usize,
     f: u32,
-    room: &mut Room,
 ) -> bool
     requires limits { IsWithinLimits V.firm V.limit market.now }
     requires network { network_of V.firm market.now IsNetwork }
@@ -58,8 +56,8 @@ fn may_leave<V: Oracle>(
     ensures { (v : V) → slice_get market.now.firms f ≡ Some v
         → DecidesLeave market.now.trades scale f (V.firm v) contracts.now k result }
 {
-    let best = greatest_utility(market, contracts, scale, None, f, room);
-    best == greatest_utility(market, contracts, scale, Some(k), f, room)
+    let best = greatest_utility(market, contracts, scale, None, f);
+    best == greatest_utility(market, contracts, scale, Some(k), f)
 }
 
 /// Whether firm `f` is one of the two ends.
@@ -76,7 +74,6 @@ fn leaves<V: Oracle>(
     scale: i128,
     k: usize,
     f: u32,
-    room: &mut Room,
 ) -> bool
     requires limits { IsWithinLimits V.firm V.limit market.now }
     requires network { network_of V.firm market.now IsNetwork }
@@ -90,7 +87,7 @@ fn leaves<V: Oracle>(
         → DecidesOwn market.now.trades scale f (V.firm v) contracts.now k result }
 {
     let trade = contracts.at(k).trade;
-    is_end(f, market.ends(trade)) && may_leave(market, contracts, scale, k, f, room)
+    is_end(f, market.ends(trade)) && may_leave(market, contracts, scale, k, f)
 }
 
 /// The first trade of those of the first `n` contracts that are contracts of firm `f` and that some choice of it lacks.
@@ -101,7 +98,6 @@ pub(crate) fn first_left<V: Oracle>(
     scale: i128,
     n: usize,
     f: u32,
-    room: &mut Room,
 ) -> Option<u32>
     requires limits { IsWithinLimits V.firm V.limit market.now }
     requires network { network_of V.firm market.now IsNetwork }
@@ -116,7 +112,7 @@ pub(crate) fn first_left<V: Oracle>(
 {
     let mut first = None;
     for k in 0..n {
-        if leaves(market, contracts, scale, k, f, room) {
+        if leaves(market, contracts, scale, k, f) {
             first = Some(earlier(first, contracts.at(k).trade));
         }
     }

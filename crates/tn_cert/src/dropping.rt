@@ -1,6 +1,6 @@
 //! Claims that a firm would drop contracts.
 
-ghost use Rattle.std.specs.Prelude.{◌≡◌, ◌^◌, ◌<◌, ◌&&◌, not, length, slice_get, IfOk, IfSome, Some};
+ghost use Rattle.std.specs.Prelude.{◌≡◌, ◌^◌, ◌<◌, ◌&&◌, not, length, slice_get, IfSome, Some};
 ghost use Rattle.tn_base.specs.Arcs.{IsAtMost};
 ghost use Rattle.tn_base.specs.Sets.{has};
 ghost use Rattle.tn_cert.specs.Outcomes.{FindsUnsigned};
@@ -15,9 +15,8 @@ ghost use Rattle.tn_market.specs.NetworkOf.{network_of};
 use crate::gains::{gain_over, judge_gain};
 use crate::least::earlier;
 use crate::replayed::Replayed;
-use std::alloc::Global;
-use tn_base::{Bundle, OutOfMemory};
-use tn_market::{Contracts, Market, Oracle, Outcome, Room, Valuation, utility_of};
+use tn_base::Bundle;
+use tn_market::{Contracts, Market, Oracle, Outcome, Valuation, utility_of};
 use tn_residual::{Held, contract_price, signed_by};
 use tn_said::Reason;
 
@@ -58,7 +57,6 @@ fn utility_held<V: Oracle>(
     f: u32,
     held: &Held,
     x: Bundle,
-    room: &mut Room,
 ) -> Option<i128>
     requires limits { IsWithinLimits V.firm V.limit market.now }
     requires outcome { IsOutcomeOf market.now.trades outcome.now.over outcome.now.contracts }
@@ -72,38 +70,36 @@ fn utility_held<V: Oracle>(
 {
     let firm = market.firm(f);
     let prices = &held.prices[..firm.trades() as usize];
-    utility_of(firm, x, outcome.over, prices, room)
+    utility_of(firm, x, outcome.over, prices)
 }
 
 /// Decides a claim that firm `firm` gains by keeping some of its contracts and dropping the others. It fails only where
 /// memory runs out.
 pub(crate) fn replay_drops<V: Oracle>(
-    alloc: Global,
     market: &Market<V>,
     outcome: &Outcome,
     firm: u32,
     keeps: Bundle,
     gain: Option<i128>,
     over: i128,
-) -> Result<Replayed, OutOfMemory>
+) -> Replayed
     requires limits { IsWithinLimits V.firm V.limit market.now }
     requires outcome { IsOutcomeOf market.now.trades outcome.now.over outcome.now.contracts }
     requires firm { firm < length market.now.firms }
     requires own { (v : V) → slice_get market.now.firms firm ≡ Some v → keeps < 2 ^ (V.firm v).count }
-    ensures { IfOk result (network_of V.firm market.now Replays (Drops outcome.now firm keeps gain over)) }
+    ensures { network_of V.firm market.now Replays (Drops outcome.now firm keeps gain over) result }
 {
     if over != outcome.over {
         let over = outcome.over;
-        return Ok(Replayed::Invalid(Reason::Over { over }));
+        return Replayed::Invalid(Reason::Over { over });
     }
     if let Some(trade) = first_unsigned(market, outcome, firm, keeps) {
-        return Ok(Replayed::Invalid(Reason::Contract { trade }));
+        return Replayed::Invalid(Reason::Contract { trade });
     }
-    let mut room = Room::new(alloc)?;
     let held = signed_by(market, firm, outcome);
-    let Some(value) = utility_held(market, outcome, firm, &held, keeps, &mut room) else {
-        return Ok(Replayed::Invalid(Reason::Impossible { firm }));
+    let Some(value) = utility_held(market, outcome, firm, &held, keeps) else {
+        return Replayed::Invalid(Reason::Impossible { firm });
     };
-    let other = utility_held(market, outcome, firm, &held, held.signed, &mut room);
-    Ok(judge_gain(firm, gain_over(value, other), gain))
+    let other = utility_held(market, outcome, firm, &held, held.signed);
+    judge_gain(firm, gain_over(value, other), gain)
 }

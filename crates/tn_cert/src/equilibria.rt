@@ -12,7 +12,7 @@ ghost use Rattle.tn_market.specs.NetworkOf.{network_of};
 use crate::replayed::Replayed;
 use std::alloc::Global;
 use tn_base::{OutOfMemory, TradeSet};
-use tn_market::{Arrangement, Market, Oracle, Prices, Room};
+use tn_market::{Arrangement, Market, Oracle, Prices};
 use tn_price::{Check, judge_at, trades_in};
 use tn_said::{Claim, Reason};
 
@@ -33,8 +33,7 @@ fn weigh<V: Oracle>(
     requires small_scale { scale ≤ℤ pos most_claimed_over }
     ensures { IfOk result (network_of V.firm market.now Weighs scale on.now (price_at prices.now)) }
 {
-    let mut room = Room::new(alloc)?;
-    match judge_at(market, on, prices, scale, &mut room) {
+    match judge_at(market, on, prices, scale) {
         Check::Equilibrium { surplus } => Ok(Ok(surplus)),
         Check::Impossible { firm } => Ok(Err(Reason::Impossible { firm })),
         Check::Better { firm, bundle, .. } => {

@@ -62,7 +62,7 @@ pub fn replay<V: Oracle>(
             firm,
             bundle,
             gain,
-        } => replay_better(alloc, market, at, *firm, *bundle, *gain),
+        } => Ok(replay_better(market, at, *firm, *bundle, *gain)),
         Claim::Impossible { on, firm } => Ok(replay_impossible(market, on, *firm, steps)),
         Claim::Cycle { on, nodes, cost } => replay_cycle(alloc, market, on, nodes, *cost, steps),
         Claim::Drops {
@@ -71,7 +71,7 @@ pub fn replay<V: Oracle>(
             keeps,
             gain,
             over,
-        } => replay_drops(alloc, market, outcome, *firm, *keeps, *gain, *over),
+        } => Ok(replay_drops(market, outcome, *firm, *keeps, *gain, *over)),
         Claim::Blocks {
             outcome,
             contracts,

@@ -1,6 +1,6 @@
 //! Claims on what a firm gains by another bundle, and on a bundle that it can't have.
 
-ghost use Rattle.std.specs.Prelude.{◌≡◌, ◌^◌, ◌<◌, ◌≤◌, All, IfOk, length, map};
+ghost use Rattle.std.specs.Prelude.{◌≡◌, ◌^◌, ◌<◌, ◌≤◌, All, length, map};
 ghost use Rattle.tn_base.specs.Arcs.{IsAtMost};
 ghost use Rattle.tn_model.specs.Prices.{price_at};
 ghost use Rattle.tn_said.specs.ClaimLimits.{IsFirmWith};
@@ -11,9 +11,8 @@ ghost use Rattle.tn_cert.specs.Replays.{Replays, TellsGain};
 ghost use Rattle.tn_market.specs.NetworkOf.{network_of};
 
 use crate::replayed::Replayed;
-use std::alloc::Global;
-use tn_base::{Bundle, OutOfMemory, Steps, TradeSet};
-use tn_market::{Arrangement, Market, Oracle, Room, Valuation, utility_of};
+use tn_base::{Bundle, Steps, TradeSet};
+use tn_market::{Arrangement, Market, Oracle, Valuation, utility_of};
 use tn_price::{own_prices, worth_at};
 use tn_said::{Claim, Reason};
 
@@ -24,7 +23,6 @@ fn gain_by<V: Oracle>(
     at: &Arrangement<16>,
     f: u32,
     other: Bundle,
-    room: &mut Room,
 ) -> Option<i128>
     requires limits { IsWithinLimits V.firm V.limit market.now }
     requires few_trades { length market.now.trades ≤ most_claimed_trades }
@@ -37,38 +35,36 @@ fn gain_by<V: Oracle>(
     let n = firm.trades();
     let prices = own_prices(market, &at.prices, f, n);
     let held = market.bundle_of(f, &at.on);
-    let value = utility_of(firm, held, 1, &prices[..n as usize], room)?;
-    let other_value = utility_of(firm, other, 1, &prices[..n as usize], room)?;
+    let value = utility_of(firm, held, 1, &prices[..n as usize])?;
+    let other_value = utility_of(firm, other, 1, &prices[..n as usize])?;
     Some(other_value - value)
 }
 
 /// Whether the firm gains so much by another bundle, and that is more than nothing, or the first condition that fails.
 pub(crate) fn replay_better<V: Oracle>(
-    alloc: Global,
     market: &Market<V>,
     at: &Arrangement<16>,
     firm: u32,
     bundle: Bundle,
     gain: i128,
-) -> Result<Replayed, OutOfMemory>
+) -> Replayed
     requires limits { IsWithinLimits V.firm V.limit market.now }
     requires few_trades { length market.now.trades ≤ most_claimed_trades }
     requires priced { length at.now.prices ≡ length market.now.trades }
     requires small_prices { All (λ p. IsAtMost p most_price) at.now.prices }
     requires own { IsFirmWith (map V.firm market.now.firms) firm (λ it. bundle < 2 ^ it.count) }
-    ensures { IfOk result (network_of V.firm market.now Replays (Claim.Better at.now firm bundle gain)) }
+    ensures { network_of V.firm market.now Replays (Claim.Better at.now firm bundle gain) result }
 {
-    let mut room = Room::new(alloc)?;
-    match gain_by(market, at, firm, bundle, &mut room) {
-        None => Ok(Replayed::Invalid(Reason::Impossible { firm })),
+    match gain_by(market, at, firm, bundle) {
+        None => Replayed::Invalid(Reason::Impossible { firm }),
         Some(actual) => {
             if actual > 0 && actual == gain {
-                Ok(Replayed::Valid)
+                Replayed::Valid
             } else {
-                Ok(Replayed::Invalid(Reason::Gain {
+                Replayed::Invalid(Reason::Gain {
                     firm,
                     gain: Some(actual),
-                }))
+                })
             }
         }
     }

@@ -18,7 +18,7 @@ ghost use Rattle.tn_market.specs.NetworkOf.{network_of};
 use std::alloc::Global;
 use tn_base::{Bundle, OutOfMemory, TradeSet};
 use tn_graph::Graph;
-use tn_market::{Ends, Market, Oracle, Outcome, Room, Valuation};
+use tn_market::{Ends, Market, Oracle, Outcome, Valuation};
 use tn_residual::{contract_price, reduced_best};
 
 /// The ends of a node, None for the null node.
@@ -55,19 +55,14 @@ fn move_between(bought: Option<Ends>, sold: Option<Ends>) -> Option<(u32, Bundle
 }
 
 /// The reduced worth of no unsigned trade of firm `f`.
-fn kept_worth<V: Oracle>(
-    market: &Market<V>,
-    outcome: &Outcome,
-    f: u32,
-    room: &mut Room,
-) -> Option<i128>
+fn kept_worth<V: Oracle>(market: &Market<V>, outcome: &Outcome, f: u32) -> Option<i128>
     requires limits { IsWithinLimits V.firm V.limit market.now }
     requires outcome { IsOutcomeOf market.now.trades outcome.now.over outcome.now.contracts }
     requires firm { f < length market.now.firms }
     ensures worth { (v : V) → slice_get market.now.firms f ≡ Some v
         → result ≡ (reduced market.now.trades outcome.now.over outcome.now.contracts f (V.firm v)).worth 0 }
 {
-    let (_, worth) = reduced_best(market, f, outcome, Bundle::empty(), room)?;
+    let (_, worth) = reduced_best(market, f, outcome, Bundle::empty())?;
     Some(worth)
 }
 
@@ -76,7 +71,6 @@ fn kept_worths<V: Oracle>(
     alloc: Global,
     market: &Market<V>,
     outcome: &Outcome,
-    room: &mut Room,
 ) -> Result<Vec<Option<i128>>, OutOfMemory>
     requires limits { IsWithinLimits V.firm V.limit market.now }
     requires outcome { IsOutcomeOf market.now.trades outcome.now.over outcome.now.contracts }
@@ -85,7 +79,7 @@ fn kept_worths<V: Oracle>(
 {
     let mut kept = Vec::with_capacity(alloc, market.firms() as usize)?;
     for f in 0..market.firms() {
-        kept.push(kept_worth(market, outcome, f, room))?;
+        kept.push(kept_worth(market, outcome, f))?;
     }
     Ok(kept)
 }
@@ -97,7 +91,6 @@ fn reduced_loss<V: Oracle>(
     before: Option<i128>,
     f: u32,
     bundle: Bundle,
-    room: &mut Room,
 ) -> Option<i128>
     requires limits { IsWithinLimits V.firm V.limit market.now }
     requires outcome { IsOutcomeOf market.now.trades outcome.now.over outcome.now.contracts }
@@ -111,7 +104,7 @@ fn reduced_loss<V: Oracle>(
         → result ≡ loss (reduced market.now.trades outcome.now.over outcome.now.contracts f (V.firm v)) 0 bundle }
 {
     let before = before?;
-    let (_, after) = reduced_best(market, f, outcome, bundle, room)?;
+    let (_, after) = reduced_best(market, f, outcome, bundle)?;
     Some(before - after)
 }
 
@@ -122,7 +115,6 @@ fn reduced_cost<V: Oracle>(
     kept: &[Option<i128>],
     u: u32,
     v: u32,
-    room: &mut Room,
 ) -> Option<i128>
     requires network { network_of V.firm market.now IsNetwork }
     requires limits { IsWithinLimits V.firm V.limit market.now }
@@ -141,7 +133,7 @@ fn reduced_cost<V: Oracle>(
     match move_between(ends_of(market, u), ends_of(market, v)) {
         Some(moved) => {
             let before = kept[moved.0 as usize];
-            reduced_loss(market, outcome, before, moved.0, moved.1, room)
+            reduced_loss(market, outcome, before, moved.0, moved.1)
         }
         None => None,
     }
@@ -154,7 +146,6 @@ fn write_row<V: Oracle>(
     outcome: &Outcome,
     kept: &[Option<i128>],
     u: u32,
-    room: &mut Room,
 )
     requires network { network_of V.firm market.now IsNetwork }
     requires limits { IsWithinLimits V.firm V.limit market.now }
@@ -169,7 +160,7 @@ fn write_row<V: Oracle>(
         (length market.now.trades + 1) (u + 1) 0 graph.new }
 {
     for v in 0..market.trades() + 1 {
-        let cost = reduced_cost(market, outcome, kept, u, v, room);
+        let cost = reduced_cost(market, outcome, kept, u, v);
         graph.set(u, v, cost);
     }
 }
@@ -192,10 +183,9 @@ pub fn reduced_graph<V: Oracle>(
     let nodes = market.trades() + 1;
     let mut graph = Graph::new(alloc, nodes)?;
     graph.lay_out(market, &TradeSet::<32>::empty());
-    let mut room = Room::new(alloc)?;
-    let kept = kept_worths(alloc, market, outcome, &mut room)?;
+    let kept = kept_worths(alloc, market, outcome)?;
     for u in 0..nodes {
-        write_row(&mut graph, market, outcome, &kept, u, &mut room);
+        write_row(&mut graph, market, outcome, &kept, u);
     }
     Ok(graph)
 }

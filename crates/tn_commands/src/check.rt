@@ -13,7 +13,7 @@ ghost use Rattle.tn_market.specs.NetworkOf.{network_of};
 use std::alloc::Global;
 use tn_base::OutOfMemory;
 use tn_firm::FirmValue;
-use tn_market::{Arrangement, Market, Room};
+use tn_market::{Arrangement, Market};
 use tn_price::{Check, judge_arrangement, trades_in};
 use tn_said::Said;
 
@@ -30,9 +30,8 @@ pub fn answer_check(
     ensures answer { IfOk result (network_of firm_of market.now ChecksArrangement (pos 1) at.now.on (price_at at.now.prices)) }
     ensures within { IfOk result IsWithinClaims }
 {
-    let mut room = Room::new(alloc)?;
     let _count = market.firms();
-    match judge_arrangement(market, at, 1, &mut room) {
+    match judge_arrangement(market, at, 1) {
         Check::Equilibrium { surplus } => Ok(Said::Equilibrium { surplus }),
         Check::Impossible { firm } => Ok(Said::Impossible { firm }),
         Check::Better { firm, bundle, gain } => {

@@ -12,7 +12,7 @@ ghost use Rattle.tn_market.specs.Signed.{contract_utility, signed_bundle};
 ghost use Rattle.tn_market.specs.NetworkOf.{network_of};
 
 use tn_base::Bundle;
-use tn_market::{Market, Oracle, Outcome, Room, Valuation, utility_of};
+use tn_market::{Market, Oracle, Outcome, Valuation, utility_of};
 use tn_residual::signed_by;
 
 /// What a firm would keep, and what it gains by that: None where its contracts are an impossible bundle.
@@ -23,12 +23,7 @@ pub struct Kept {
 }
 
 /// The utility of the contracts of firm `f`, None where they are an impossible bundle.
-fn own_utility<V: Oracle>(
-    market: &Market<V>,
-    f: u32,
-    outcome: &Outcome,
-    room: &mut Room,
-) -> Option<i128>
+fn own_utility<V: Oracle>(market: &Market<V>, f: u32, outcome: &Outcome) -> Option<i128>
     requires limits { IsWithinLimits V.firm V.limit market.now }
     requires outcome { IsOutcomeOf market.now.trades outcome.now.over outcome.now.contracts }
     requires firm { f < length market.now.firms }
@@ -40,16 +35,11 @@ fn own_utility<V: Oracle>(
     let held = signed_by(market, f, outcome);
     let firm = market.firm(f);
     let prices = &held.prices[..firm.trades() as usize];
-    utility_of(firm, held.signed, outcome.over, prices, room)
+    utility_of(firm, held.signed, outcome.over, prices)
 }
 
 /// A choice of firm `f` from its contracts, with its utility. The search begins at all of them.
-fn best_kept<V: Oracle>(
-    market: &Market<V>,
-    f: u32,
-    outcome: &Outcome,
-    room: &mut Room,
-) -> (Bundle, i128)
+fn best_kept<V: Oracle>(market: &Market<V>, f: u32, outcome: &Outcome) -> (Bundle, i128)
     requires limits { IsWithinLimits V.firm V.limit market.now }
     requires outcome { IsOutcomeOf market.now.trades outcome.now.over outcome.now.contracts }
     requires firm { f < length market.now.firms }
@@ -61,7 +51,7 @@ fn best_kept<V: Oracle>(
     let held = signed_by(market, f, outcome);
     let firm = market.firm(f);
     let prices = &held.prices[..firm.trades() as usize];
-    firm.best_from(held.signed, held.signed, outcome.over, prices, room)
+    firm.best_from(held.signed, held.signed, outcome.over, prices)
 }
 
 /// A choice's utility less that of all contracts, if it is more; `own` is None where they are an impossible bundle.
@@ -84,12 +74,7 @@ fn drop_from(keeps: Bundle, value: i128, own: Option<i128>) -> Option<Kept>
 }
 
 /// What firm `f` would drop.
-fn drop_at<V: Oracle>(
-    market: &Market<V>,
-    f: u32,
-    outcome: &Outcome,
-    room: &mut Room,
-) -> Option<Kept>
+fn drop_at<V: Oracle>(market: &Market<V>, f: u32, outcome: &Outcome) -> Option<Kept>
     requires limits { IsWithinLimits V.firm V.limit market.now }
     requires outcome { IsOutcomeOf market.now.trades outcome.now.over outcome.now.contracts }
     requires network { network_of V.firm market.now IsNetwork }
@@ -97,22 +82,18 @@ fn drop_at<V: Oracle>(
     ensures { (firm : Firm) → slice_get (map V.firm market.now.firms) f ≡ Some firm
         → FindsDrop market.now.trades outcome.now.over outcome.now.contracts f firm result }
 {
-    let (keeps, value) = best_kept(market, f, outcome, room);
-    drop_from(keeps, value, own_utility(market, f, outcome, room))
+    let (keeps, value) = best_kept(market, f, outcome);
+    drop_from(keeps, value, own_utility(market, f, outcome))
 }
 
 /// The first firm that would drop contracts, and what it would keep. The limits of firms and outcomes hold.
-pub fn first_drop<V: Oracle>(
-    market: &Market<V>,
-    outcome: &Outcome,
-    room: &mut Room,
-) -> Option<(u32, Kept)>
+pub fn first_drop<V: Oracle>(market: &Market<V>, outcome: &Outcome) -> Option<(u32, Kept)>
     requires limits { IsWithinLimits V.firm V.limit market.now }
     requires outcome { IsOutcomeOf market.now.trades outcome.now.over outcome.now.contracts }
     ensures { network_of V.firm market.now FindsFirst outcome.now.over outcome.now.contracts result }
 {
     for f in 0..market.firms() {
-        if let Some(drop) = drop_at(market, f, outcome, room) {
+        if let Some(drop) = drop_at(market, f, outcome) {
             return Some((f, drop));
         }
     }

@@ -13,7 +13,7 @@ use crate::drops::first_drop;
 use std::alloc::Global;
 use tn_base::{Bundle, OutOfMemory, Steps};
 use tn_chain::{chain_of, chain_scale};
-use tn_market::{Contracts, Market, Oracle, Outcome, Prices, Room, Valuation};
+use tn_market::{Contracts, Market, Oracle, Outcome, Prices, Valuation};
 
 /// The verdict on an outcome.
 #[derive(Drop)]
@@ -72,8 +72,7 @@ pub fn judge<V: Oracle>(
     if let Some(prices) = completion(alloc, market, outcome, steps)? {
         return Ok(Judged::Completes { prices });
     }
-    let mut room = Room::new(alloc)?;
-    if let Some((firm, drop)) = first_drop(market, outcome, &mut room) {
+    if let Some((firm, drop)) = first_drop(market, outcome) {
         return Ok(Judged::Drops {
             firm,
             keeps: drop.keeps,

@@ -11,7 +11,6 @@ mod market;
 mod nodes;
 mod oracle;
 mod party;
-mod room;
 mod valuation;
 
 pub use ascent::{best_by_ascent, best_by_ascent_from};
@@ -21,7 +20,6 @@ pub use market::Market;
 pub use nodes::said_nodes;
 pub use oracle::{MOST_OWN, MOST_WORTH, Oracle, utility_of, worth_of};
 pub use party::{Outside, Party};
-pub use room::Room;
 pub use tn_model::{
     Amounts, Arrangement, Contract, Contracts, Ends, Lent, Listed, Nodes, Outcome, Prices, Range,
     Ranges, TradeEnds, Trades, count_own, sides_of,

@@ -11,7 +11,6 @@ ghost use Rattle.tn_market.specs.Widths.{most_own, most_worth, most_asked_price,
 
 use crate::aim::Aim;
 use crate::ascent::{best_by_ascent, best_by_ascent_from, gains};
-use crate::room::Room;
 use crate::valuation::Valuation;
 use tn_base::{Asked, Bundle, Steps};
 
@@ -35,7 +34,6 @@ pub trait Oracle: Valuation<Mark = Asked> {
         free: Bundle,
         scale: i128,
         prices: &[i128],
-        _room: &mut Room,
     ) -> Option<(Bundle, i128)>
         requires apart { meet need free ≡ 0 }
         requires own { union need free < 2 ^ (Self.firm self.now).count }
@@ -59,7 +57,6 @@ pub trait Oracle: Valuation<Mark = Asked> {
         allowed: Bundle,
         scale: i128,
         prices: &[i128],
-        _room: &mut Room,
     ) -> (Bundle, i128)
         requires own { allowed < 2 ^ (Self.firm self.now).count }
         requires priced { length prices.now ≡ (Self.firm self.now).count }
@@ -77,13 +74,7 @@ pub trait Oracle: Valuation<Mark = Asked> {
 
 /// The utility of a bundle at a scale and at the prices of the positions, None where it is impossible: by one worth. It
 /// takes no memory. The bundle has own positions alone; prices, scale and firm are within the limits of `best`.
-pub fn utility_of<V: Oracle>(
-    firm: &V,
-    x: Bundle,
-    scale: i128,
-    prices: &[i128],
-    _room: &mut Room,
-) -> Option<i128>
+pub fn utility_of<V: Oracle>(firm: &V, x: Bundle, scale: i128, prices: &[i128]) -> Option<i128>
     requires own { x < 2 ^ (V.firm firm.now).count }
     requires priced { length prices.now ≡ (V.firm firm.now).count }
     requires small_prices { All (λ p. IsAtMost p most_asked_price) prices.now }
@@ -107,7 +98,7 @@ pub fn utility_of<V: Oracle>(
 
 /// The worth of a bundle, None where it is impossible: by one worth. It takes no memory. The bundle has own positions
 /// alone; the firm has at most 60 own trades and no worth above 1.24 * 10^11.
-pub fn worth_of<V: Oracle>(firm: &V, x: Bundle, _room: &mut Room) -> Option<i128>
+pub fn worth_of<V: Oracle>(firm: &V, x: Bundle) -> Option<i128>
     requires own { x < 2 ^ (V.firm firm.now).count }
     requires few_trades { (V.firm firm.now).count ≤ most_own }
     requires small_worths { V.limit firm.now ≤ most_worth }

@@ -13,7 +13,7 @@ use crate::check::Check;
 use crate::firm::standing;
 use crate::firm_verdict::FirmVerdict;
 use tn_base::TradeSet;
-use tn_market::{Arrangement, MOST_OWN, Market, Oracle, Prices, Room, Valuation};
+use tn_market::{Arrangement, MOST_OWN, Market, Oracle, Prices, Valuation};
 
 /// The prices of the `n` trades of firm `f`, by position.
 pub fn own_prices<V: Valuation>(
@@ -43,7 +43,6 @@ fn standing_of<V: Oracle, const W: usize>(
     prices: &Prices,
     over: i128,
     f: u32,
-    room: &mut Room,
 ) -> FirmVerdict
     requires wide { length market.now.trades ≤ 64 * W }
     requires priced { length prices.now ≡ length market.now.trades }
@@ -59,7 +58,7 @@ fn standing_of<V: Oracle, const W: usize>(
     let n = firm.trades();
     let own_prices = own_prices(market, prices, f, n);
     let own = market.bundle_of(f, on);
-    standing(firm, own, over, &own_prices[..n as usize], room)
+    standing(firm, own, over, &own_prices[..n as usize])
 }
 
 /// Judges a set of trades with prices at scale `over`: the first firm whose bundle is impossible or not best, or that
@@ -71,7 +70,6 @@ pub fn judge_at<V: Oracle, const W: usize>(
     on: &TradeSet<W>,
     prices: &Prices,
     over: i128,
-    room: &mut Room,
 ) -> Check
     requires wide { length market.now.trades ≤ 64 * W }
     requires priced { length prices.now ≡ length market.now.trades }
@@ -84,7 +82,7 @@ pub fn judge_at<V: Oracle, const W: usize>(
 {
     let mut surplus = 0;
     for f in 0..market.firms() {
-        match standing_of(market, on, prices, over, f, room) {
+        match standing_of(market, on, prices, over, f) {
             FirmVerdict::Best(worth) => surplus += worth,
             FirmVerdict::Impossible => return Check::Impossible { firm: f },
             FirmVerdict::Bettered(bundle, gain) => {
@@ -107,7 +105,6 @@ pub fn judge_arrangement<V: Oracle, const W: usize>(
     market: &Market<V>,
     at: &Arrangement<W>,
     over: i128,
-    room: &mut Room,
 ) -> Check
     requires wide { length market.now.trades ≤ 64 * W }
     requires priced { length at.now.prices ≡ length market.now.trades }
@@ -118,5 +115,5 @@ pub fn judge_arrangement<V: Oracle, const W: usize>(
     requires small_worths { (f : ℕ) (v : V) → slice_get market.now.firms f ≡ Some v → V.limit v ≤ most_worth }
     ensures { network_of V.firm market.now Checks over at.now.on (price_at at.now.prices) result }
 {
-    judge_at(market, &at.on, &at.prices, over, room)
+    judge_at(market, &at.on, &at.prices, over)
 }

@@ -16,7 +16,7 @@ use crate::stand::{Stand, stand_of};
 use std::alloc::Global;
 use tn_base::{Bundle, OutOfMemory, TradeSet};
 use tn_firm::RawFirm;
-use tn_market::{MOST_OWN, Room};
+use tn_market::MOST_OWN;
 use tn_model::{Arrangement, Ends, Prices, Trades, own, trades_of};
 use tn_said::{Holding, Holdings, Said};
 
@@ -92,7 +92,6 @@ fn holding_of<const W: usize>(
     ends: &[Ends],
     at: &Arrangement<W>,
     f: u32,
-    room: &mut Room,
 ) -> Result<Holding, OutOfMemory>
     requires few_trades { length ends.now ≤ most_trades }
     requires wide { length ends.now ≤ 64 * W }
@@ -107,7 +106,7 @@ fn holding_of<const W: usize>(
     let n = firm.trades();
     let prices = own_prices(ends, &at.prices, f, n);
     let own = bundle_of(ends, &at.on, f, n);
-    let stand = stand_of(firm, own, &prices[..n as usize], room);
+    let stand = stand_of(firm, own, &prices[..n as usize]);
     let gain = gain_of(&stand);
     let held = trades_of(alloc, ends, f, n, own)?;
     let wanted = trades_of(alloc, ends, f, n, stand.best)?;
@@ -157,12 +156,11 @@ pub fn answer_firms<const W: usize>(
         (price_at at.now.prices)) }
     ensures within { IfOk result IsWithinClaims }
 {
-    let mut room = Room::new(alloc)?;
     let mut holdings = Vec::new(alloc);
     let mut content = 0;
     let mut surplus = Some(0);
     for (f, firm) in firms.iter().enumerate() {
-        let holding = holding_of(alloc, firm, ends, at, f as u32, &mut room)?;
+        let holding = holding_of(alloc, firm, ends, at, f as u32)?;
         content += count_content(&holding);
         surplus = sum(surplus, holding.worth);
         holdings.push(holding)?;

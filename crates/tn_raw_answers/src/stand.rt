@@ -15,7 +15,7 @@ use crate::table::{best_of_table, table_utility};
 use tn_base::Bundle;
 use tn_exchange::RawTable;
 use tn_firm::RawFirm;
-use tn_market::{Oracle, Room, utility_of, worth_of};
+use tn_market::{Oracle, utility_of, worth_of};
 use tn_price::greatest;
 
 /// How a firm stands with its own bundle at the prices of its positions.
@@ -64,7 +64,7 @@ fn stand_of_table(table: &RawTable, own: Bundle, prices: &[i128]) -> Stand
 }
 
 /// How a firm stands that finds a best bundle itself.
-fn stand_of_oracle<V: Oracle>(firm: &V, own: Bundle, prices: &[i128], room: &mut Room) -> Stand
+fn stand_of_oracle<V: Oracle>(firm: &V, own: Bundle, prices: &[i128]) -> Stand
     requires own { own < 2 ^ (V.firm firm.now).count }
     requires priced { length prices.now ≡ (V.firm firm.now).count }
     requires small { All (λ p. IsAtMost p most_asked_price) prices.now }
@@ -72,15 +72,15 @@ fn stand_of_oracle<V: Oracle>(firm: &V, own: Bundle, prices: &[i128], room: &mut
     requires small_worths { V.limit firm.now ≤ most_worth }
     ensures { IsStandAtPrices (V.firm firm.now) (price_at prices.now) own result }
 {
-    let worth = worth_of(firm, own, room);
-    let utility = utility_of(firm, own, 1, prices, room);
-    let (bundle, value) = greatest(firm, 1, prices, room);
+    let worth = worth_of(firm, own);
+    let utility = utility_of(firm, own, 1, prices);
+    let (bundle, value) = greatest(firm, 1, prices);
     stand_beside(own, worth, utility, Found { bundle, value })
 }
 
 /// How a firm stands with its own bundle, whether it meets exchange or not: a best bundle is best of all its bundles.
 /// It takes no memory. The bundle has own positions alone; prices are at most 10^20 in size, one for each position.
-pub fn stand_of(firm: &RawFirm, own: Bundle, prices: &[i128], room: &mut Room) -> Stand
+pub fn stand_of(firm: &RawFirm, own: Bundle, prices: &[i128]) -> Stand
     requires own { own < 2 ^ (raw_firm_of firm.now).count }
     requires priced { length prices.now ≡ (raw_firm_of firm.now).count }
     requires small { All (λ p. IsAtMost p most_asked_price) prices.now }
@@ -92,8 +92,8 @@ pub fn stand_of(firm: &RawFirm, own: Bundle, prices: &[i128], room: &mut Room) -
             let _count = table.trades();
             stand_of_table(table, own, prices)
         }
-        RawFirm::Laminar(firm) => stand_of_oracle(firm, own, prices, room),
-        RawFirm::Middle(firm) => stand_of_oracle(firm, own, prices, room),
-        RawFirm::Dealer(firm) => stand_of_oracle(firm, own, prices, room),
+        RawFirm::Laminar(firm) => stand_of_oracle(firm, own, prices),
+        RawFirm::Middle(firm) => stand_of_oracle(firm, own, prices),
+        RawFirm::Dealer(firm) => stand_of_oracle(firm, own, prices),
     }
 }

@@ -9,7 +9,7 @@ ghost use Rattle.tn_residual.specs.Held.{GivesPart};
 
 use crate::signed::signed_by;
 use tn_base::Bundle;
-use tn_market::{Market, Oracle, Outcome, Room};
+use tn_market::{Market, Oracle, Outcome};
 
 /// The reduced worth of a firm's unsigned trades `x`: the greatest utility, over the outcome's denominator, of `x` with
 /// a part of the firm's contracts, at their prices and without prices for `x`; and a part that reaches it. None exactly
@@ -20,7 +20,6 @@ pub fn reduced_best<V: Oracle>(
     firm: u32,
     outcome: &Outcome,
     x: Bundle,
-    room: &mut Room,
 ) -> Option<(Bundle, i128)>
     requires limits { IsWithinLimits V.firm V.limit market.now }
     requires outcome { IsOutcomeOf market.now.trades outcome.now.over outcome.now.contracts }
@@ -38,7 +37,7 @@ pub fn reduced_best<V: Oracle>(
     let held = signed_by(market, firm, outcome);
     let firm = market.firm(firm);
     let prices = &held.prices[..firm.trades() as usize];
-    without(firm.best(x, held.signed, outcome.over, prices, room), x)
+    without(firm.best(x, held.signed, outcome.over, prices), x)
 }
 
 /// What a bundle has beside `x`, with its utility.

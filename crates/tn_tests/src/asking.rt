@@ -5,10 +5,9 @@ ghost use Rattle.std.specs.Prelude.{All};
 ghost use Rattle.tn_base.specs.Arcs.{IsAtMost};
 ghost use Rattle.tn_market.specs.Widths.{most_asked_price};
 
-use std::alloc::Global;
 use std::process::Abort;
-use tn_base::{Asked, Bundle, OutOfMemory, Side, Steps};
-use tn_market::{MOST_OWN, MOST_WORTH, Oracle, Room, Valuation};
+use tn_base::{Asked, Bundle, Side, Steps};
+use tn_market::{MOST_OWN, MOST_WORTH, Oracle, Valuation};
 
 /// How many own trades a firm has, its side of the one at position `k`, and its bound.
 pub(crate) fn shape<F: Valuation>(rt: &impl Abort, firm: &F, k: u32) -> (u32, Side, i128) {
@@ -53,45 +52,33 @@ pub(crate) fn row<F: Valuation<Mark = Asked>, const N: usize>(
 #[tactic(auto, unfolding(tn_base::specs::Sets::meet, tn_base::specs::Sets::union))]
 pub(crate) fn best<F: Oracle>(
     rt: &impl Abort,
-    alloc: Global,
     firm: &F,
     free: u64,
     prices: &[i128],
-) -> Result<Option<(u64, i128)>, OutOfMemory>
+) -> Option<(u64, i128)>
     requires { All (λ p. IsAtMost p most_asked_price) prices.now }
 {
     assert!(rt; firm.trades() as usize <= MOST_OWN);
     assert!(rt; firm.trades() as usize == prices.len());
     assert!(rt; free < 1 << firm.trades());
     assert!(rt; firm.bound() <= MOST_WORTH);
-    let mut room = Room::new(alloc)?;
-    match firm.best(
-        Bundle::empty(),
-        Bundle::from_bits(free),
-        1,
-        prices,
-        &mut room,
-    ) {
-        Some((bundle, utility)) => Ok(Some((bundle.bits(), utility))),
-        None => Ok(None),
-    }
+    let (bundle, utility) = firm.best(Bundle::empty(), Bundle::from_bits(free), 1, prices)?;
+    Some((bundle.bits(), utility))
 }
 
 /// The bundle of best utility that the search comes to from one at hand, with what it comes to.
 pub(crate) fn best_from<F: Oracle>(
     rt: &impl Abort,
-    alloc: Global,
     firm: &F,
     from: u64,
     prices: &[i128],
-) -> Result<(u64, i128), OutOfMemory>
+) -> (u64, i128)
     requires { All (λ p. IsAtMost p most_asked_price) prices.now }
 {
     assert!(rt; firm.trades() as usize <= MOST_OWN);
     assert!(rt; firm.trades() as usize == prices.len());
     assert!(rt; firm.bound() <= MOST_WORTH);
     let all = Bundle::from_bits((1 << firm.trades()) - 1);
-    let mut room = Room::new(alloc)?;
-    let (bundle, utility) = firm.best_from(Bundle::from_bits(from), all, 1, prices, &mut room);
-    Ok((bundle.bits(), utility))
+    let (bundle, utility) = firm.best_from(Bundle::from_bits(from), all, 1, prices);
+    (bundle.bits(), utility)
 }

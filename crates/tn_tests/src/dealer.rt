@@ -46,8 +46,8 @@ fn a_dealer_in_two_items(rt: HostRuntime) -> Result<(), Fail> {
     ];
     let lower = row(&rt, &dealer, 0b0111, 0b1111);
     let higher = row(&rt, &dealer, 0b1101, 0b1111);
-    let best = best(&rt, rt.alloc(), &dealer, 0b1111, &[5, 7, 12, 9]);
-    assert!(rt; (values, best) == ([Some(-2), Some(-2), None], Ok(Some((0b1111, 7)))));
+    let best = best(&rt, &dealer, 0b1111, &[5, 7, 12, 9]);
+    assert!(rt; (values, best) == ([Some(-2), Some(-2), None], Some((0b1111, 7))));
     let wanted = [
         [Some(-2), Some(-1), None, Some(-2)],
         [None, Some(-2), Some(-3), Some(-1)],

@@ -75,9 +75,9 @@ fn middleman(alloc: Global, kept: Option<i128>) -> Result<Middle, Fail>
 fn a_middleman_is_asked(rt: HostRuntime) -> Result<(), Fail> {
     let firm = FirmValue::Middle(middleman(rt.alloc(), Some(8))?);
     let worths = row(&rt, &firm, 0b11, 0b11);
-    let best = best(&rt, rt.alloc(), &firm, 0b11, &[1, 9]);
+    let best = best(&rt, &firm, 0b11, &[1, 9]);
     let found = (value(&rt, &firm, 0b11), worths, best);
-    assert!(rt; found == (Some(1), [None, Some(6)], Ok(Some((0b11, 9)))));
+    assert!(rt; found == (Some(1), [None, Some(6)], Some((0b11, 9))));
     Ok(())
 }
 
@@ -93,9 +93,9 @@ fn apart(alloc: Global) -> Result<FirmValue, Fail> {
 fn a_laminar_firm_is_asked(rt: HostRuntime) -> Result<(), Fail> {
     let firm = apart(rt.alloc())?;
     let worths = row(&rt, &firm, 0b11, 0b11);
-    let best = best(&rt, rt.alloc(), &firm, 0b11, &[5, 2]);
+    let best = best(&rt, &firm, 0b11, &[5, 2]);
     let found = (value(&rt, &firm, 0b11), worths, best);
-    assert!(rt; found == (Some(3), [Some(-3), Some(6)], Ok(Some((0b01, 1)))));
+    assert!(rt; found == (Some(3), [Some(-3), Some(6)], Some((0b01, 1))));
     Ok(())
 }
 
@@ -123,7 +123,7 @@ fn dealer(alloc: Global) -> Result<FirmValue, Fail> {
 #[test]
 fn a_dealer_is_asked(rt: HostRuntime) -> Result<(), Fail> {
     let firm = dealer(rt.alloc())?;
-    let best = best(&rt, rt.alloc(), &firm, 0b11, &[1, 9]);
-    assert!(rt; (value(&rt, &firm, 0b11), best) == (Some(-2), Ok(Some((0b11, 6)))));
+    let best = best(&rt, &firm, 0b11, &[1, 9]);
+    assert!(rt; (value(&rt, &firm, 0b11), best) == (Some(-2), Some((0b11, 6))));
     Ok(())
 }

@@ -35,8 +35,8 @@ fn one_car_is_sold_once(rt: HostRuntime) -> Result<(), Fail> {
     let owner = owner(rt.alloc())?;
     assert!(rt; shape(&rt, &owner, 1) == (3, Side::Sell, 124_000_000_000));
     let values = [value(&rt, &owner, 0b010), value(&rt, &owner, 0b110)];
-    let best = best(&rt, rt.alloc(), &owner, 0b111, &[5, 7, 6]);
-    assert!(rt; (values, best) == ([Some(-4), None], Ok(Some((0b010, 3)))));
+    let best = best(&rt, &owner, 0b111, &[5, 7, 6]);
+    assert!(rt; (values, best) == ([Some(-4), None], Some((0b010, 3))));
     Ok(())
 }
 

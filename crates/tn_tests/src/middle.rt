@@ -17,8 +17,8 @@ fn a_dealer_in_one_car(rt: HostRuntime) -> Result<(), Fail> {
     let dealer = dealer(rt.alloc())?;
     assert!(rt; shape(&rt, &dealer, 1) == (4, Side::Buy, 124_000_000_000));
     let values = [value(&rt, &dealer, 0b0110), value(&rt, &dealer, 0b0001)];
-    let best = best(&rt, rt.alloc(), &dealer, 0b1111, &[4, 2, 9, 7]);
-    assert!(rt; (values, best) == ([Some(-2), None], Ok(Some((0b1010, 6)))));
+    let best = best(&rt, &dealer, 0b1111, &[4, 2, 9, 7]);
+    assert!(rt; (values, best) == ([Some(-2), None], Some((0b1010, 6))));
     Ok(())
 }
 
@@ -46,10 +46,10 @@ fn a_purchase_is_kept(rt: HostRuntime) -> Result<(), Fail> {
 fn a_best_bundle_is_not_left(rt: HostRuntime) -> Result<(), Fail> {
     let middle = keeper(rt.alloc())?;
     let found = [
-        best_from(&rt, rt.alloc(), &middle, 0b01, &[6, 5]),
-        best_from(&rt, rt.alloc(), &middle, 0b11, &[6, 5]),
-        best_from(&rt, rt.alloc(), &middle, 0b10, &[6, 5]),
+        best_from(&rt, &middle, 0b01, &[6, 5]),
+        best_from(&rt, &middle, 0b11, &[6, 5]),
+        best_from(&rt, &middle, 0b10, &[6, 5]),
     ];
-    assert!(rt; found == [Ok((0b01, 0)), Ok((0b11, 0)), Ok((0, 0))]);
+    assert!(rt; found == [(0b01, 0), (0b11, 0), (0, 0)]);
     Ok(())
 }

@@ -12,7 +12,7 @@ use tn_base::{Asked, Bundle, Costs, OutOfMemory, Steps, TradeSet};
 use tn_cert::{Replayed, replay};
 use tn_chain::{chain_scale, reduced_graph};
 use tn_judge::{Judged, judge};
-use tn_market::{Arrangement, Nodes, Prices, Room, Valuation};
+use tn_market::{Arrangement, Nodes, Prices, Valuation};
 use tn_residual::{contract_price, reduced_best, residual};
 use tn_said::{Claim, Reason};
 
@@ -23,12 +23,11 @@ use tn_said::{Claim, Reason};
 fn reduced_worths_of_two_stalls(rt: HostRuntime) {
     let market = two_stalls(rt.alloc()).expect(&rt, "memory");
     let outcome = sold_at_4(rt.alloc()).expect(&rt, "memory");
-    let mut room = Room::new(rt.alloc()).expect(&rt, "memory");
     let signed = contract_price(&outcome.contracts, 0);
     assert!(rt; [signed, contract_price(&outcome.contracts, 1)] == [Some(4), None]);
     let none = Bundle::empty();
-    let seller = reduced_best(&market, 0, &outcome, none, &mut room);
-    let buyer = reduced_best(&market, 1, &outcome, none, &mut room);
+    let seller = reduced_best(&market, 0, &outcome, none);
+    let buyer = reduced_best(&market, 1, &outcome, none);
     assert!(rt; [seller, buyer] == [Some((Bundle::from_bits(2), 9)), Some((none, 0))]);
     let residual = residual(rt.alloc(), &market, &outcome, 2, 1).expect(&rt, "memory");
     assert!(rt; [residual.firms(), residual.trades()] == [3, 3]);

@@ -4,11 +4,10 @@ ghost use Rattle.std.specs.Prelude.{◌≡◌, ◌<◌};
 ghost use Rattle.tn_base.specs.Sets.{meet, union};
 
 use crate::stalls::{Stall, ends, two_stalls};
-use std::alloc::Global;
-use tn_base::{Asked, Bundle, Costs, OutOfMemory, Side, Steps, TradeSet};
+use tn_base::{Asked, Bundle, Costs, Side, Steps, TradeSet};
 use tn_flow::Solver;
 use tn_graph::Graph;
-use tn_market::{Levied, Nodes, Oracle, Outside, Party, Room, Valuation, utility_of, worth_of};
+use tn_market::{Levied, Nodes, Oracle, Outside, Party, Valuation, utility_of, worth_of};
 use tn_price::{Support, support};
 use tn_range::range;
 use tn_session::Session;
@@ -33,59 +32,43 @@ fn market_keeps_its_trades(rt: HostRuntime) {
 }
 
 /// What the stall does at these prices and a scale of 2, where it must have `need` and may have `free`.
-fn best_at(
-    alloc: Global,
-    need: u64,
-    free: u64,
-    buy_at: i32,
-    sell_at: i32,
-) -> Result<Option<(u64, i128)>, OutOfMemory>
+fn best_at(need: u64, free: u64, buy_at: i32, sell_at: i32) -> Option<(u64, i128)>
     requires apart { meet need free ≡ 0 }
     requires own { union need free < 4 }
 {
-    let mut room = Room::new(alloc)?;
     let need = Bundle::from_bits(need);
     let free = Bundle::from_bits(free);
     let prices = [i128::from(buy_at), i128::from(sell_at)];
-    match Stall.best(need, free, 2, &prices, &mut room) {
-        Some((bundle, value)) => Ok(Some((bundle.bits(), value))),
-        None => Ok(None),
-    }
+    let (bundle, value) = Stall.best(need, free, 2, &prices)?;
+    Some((bundle.bits(), value))
 }
 
 #[test]
 #[tactic(auto, unfolding(tn_base::specs::Sets::meet, tn_base::specs::Sets::union))]
 fn best_bundle_of_a_stall(rt: HostRuntime) {
-    let alloc = rt.alloc();
     let found = [
-        best_at(alloc, 0, 3, 4, 4),
-        best_at(alloc, 1, 2, 4, 4),
-        best_at(alloc, 0, 1, -8, 4),
-        best_at(alloc, 2, 1, 4, -40),
-        best_at(alloc, 0, 0, -8, 40),
+        best_at(0, 3, 4, 4),
+        best_at(1, 2, 4, 4),
+        best_at(0, 1, -8, 4),
+        best_at(2, 1, 4, -40),
+        best_at(0, 0, -8, 40),
     ];
     let wanted = [
-        Ok(Some((2, 14))),
-        Ok(Some((3, 4))),
-        Ok(Some((1, 2))),
-        Ok(Some((2, -30))),
-        Ok(Some((0, 0))),
+        Some((2, 14)),
+        Some((3, 4)),
+        Some((1, 2)),
+        Some((2, -30)),
+        Some((0, 0)),
     ];
     assert!(rt; found == wanted);
 }
 
-/// What two bundles are worth, and the cells of the room that they are asked in.
+/// What two bundles are worth.
 #[test]
 fn bundles_of_a_stall(rt: HostRuntime) {
-    let mut room = Room::new(rt.alloc()).expect(&rt, "memory");
     let both = Bundle::from_bits(3);
-    let worth = worth_of(&Stall, both, &mut room);
-    assert!(rt; [worth, utility_of(&Stall, both, 2, &[4, 4], &mut room)] == [Some(2), Some(4)]);
-    let cells = room.cells();
-    assert!(rt; cells.len() == 60);
-    cells[59] = Some((Bundle::empty(), 7));
-    let last = cells[59];
-    assert!(rt; last == Some((Bundle::empty(), 7)));
+    let worth = worth_of(&Stall, both);
+    assert!(rt; [worth, utility_of(&Stall, both, 2, &[4, 4])] == [Some(2), Some(4)]);
 }
 
 /// A stall under a tax, a stall of a residual market, and the firm outside.

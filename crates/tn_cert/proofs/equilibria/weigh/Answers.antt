@@ -25,8 +25,8 @@ trades_in-requires g c =
     within_firms g.V.Valuation.firm c.args.market.now.firms c.in-Better.firm c.in-Better.ensures.firm
     c.in-Better.ensures.is
 
-pub returns : goal.returns
-returns g c =
+pub returns-in_ok-bundle-in-Better : goal.returns-in_ok-bundle-in-Better
+returns-in_ok-bundle-in-Better g c =
     let scaled : SFits w128 c.args.scale = c.ranges.scale in
     let first = subst (λ (scale : ℤ). IsFirstBettered (map g.V.Valuation.firm c.args.market.now.firms)
     c.args.market.now.trades scale c.args.on.now (price_at c.args.prices.now) c.in-Better.firm c.in-Better.bundle

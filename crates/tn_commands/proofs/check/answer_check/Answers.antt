@@ -16,8 +16,8 @@ trades_in-requires c =
     bettered_firm c.args.market.now.firms c.args.market.now.trades c.args.at.now.on c.args.at.now.prices
     c.in-Better.firm _ _ c.in-Better.ensures
 
-pub returns-clause-answer : goal.returns-clause-answer
-returns-clause-answer c =
+pub returns-in_ok-bundle-in-Better-clause-answer : goal.returns-in_ok-bundle-in-Better-clause-answer
+returns-in_ok-bundle-in-Better-clause-answer c =
     let fits = gain_fits c.args.market.now.firms c.args.market.now.trades c.args.at.now.on c.args.at.now.prices
     c.in-Better.firm _ c.in-Better.gain c.requires.small c.in-Better.ensures in
     let same : to_z w128 (of_z w128 c.in-Better.gain) ≡ c.in-Better.gain = omega (arith, ints, fits.low, fits.high) in
@@ -25,8 +25,8 @@ returns-clause-answer c =
     c.in-Better.firm _ c.in-Better.gain _ c.in_ok-bundle-in-Better.bundle c.in-Better.ensures same
     c.in_ok-bundle-in-Better.ensures
 
-pub returns-clause-within : goal.returns-clause-within
-returns-clause-within c =
+pub returns-in_ok-bundle-in-Better-clause-within : goal.returns-in_ok-bundle-in-Better-clause-within
+returns-in_ok-bundle-in-Better-clause-within c =
     let fits = gain_fits c.args.market.now.firms c.args.market.now.trades c.args.at.now.on c.args.at.now.prices
     c.in-Better.firm _ c.in-Better.gain c.requires.small c.in-Better.ensures in
     omega (arith, ints, fits.low, fits.high)
