@@ -9,8 +9,8 @@ mod words;
 ghost use Rattle.tn_answer.specs.AnswerText.{answer_line};
 ghost use Rattle.tn_names.specs.Names.{NameLists};
 ghost use Rattle.tn_said.specs.declared.said.Said.{Said};
+ghost use Rattle.tn_run.specs.Request.{layout_of, request_of};
 ghost use Rattle.tn_run.specs.Run.{status_of};
-ghost use Rattle.tn_run.specs.Words.{layout_of};
 ghost use Rattle.tn_page.specs.Answered.{MayBeAnswered};
 ghost use Rattle.tn_page.specs.Told.{IsTold};
 ghost use Rattle.tn_page.specs.Words.{words_in};
@@ -33,8 +33,10 @@ const NO_MEMORY: u8 = 5;
 #[unsafe(no_mangle)]
 pub extern "C" fn page_answer(alloc: Global, words: &[u8], document: &[u8], out: &mut [u8]) -> u64
     // The defined answer to these words and this document, or want of memory: its text and its status.
-    ensures { (names : NameLists) × (said : Said) × MayBeAnswered (words_in words.now) document.now names said
-        × IsTold (answer_line (layout_of (words_in words.now)) names said) (status_of said) out.old out.new result }
+    ensures { (names : NameLists) × (said : Said)
+        × MayBeAnswered (request_of (words_in words.now)) document.now names said
+        × IsTold (answer_line (layout_of (request_of (words_in words.now))) names said) (status_of said) out.old out.new
+        result }
 {
     match run_on(alloc, words, document) {
         Ok(whole) => tell(whole.status, &whole.text, out),

@@ -4,8 +4,8 @@ ghost use Rattle.std.specs.Prelude.{◌≡◌, ◌≤◌, IfOk, length};
 ghost use Rattle.tn_answer.specs.AnswerText.{answer_line};
 ghost use Rattle.tn_names.specs.Names.{NameLists};
 ghost use Rattle.tn_said.specs.declared.said.Said.{Said};
+ghost use Rattle.tn_run.specs.Request.{layout_of, request_of};
 ghost use Rattle.tn_run.specs.Run.{status_of};
-ghost use Rattle.tn_run.specs.Words.{layout_of};
 ghost use Rattle.tn_page.specs.Answered.{MayBeAnswered};
 ghost use Rattle.tn_page.specs.Words.{words_in};
 
@@ -36,8 +36,8 @@ fn status_of_run(run: Run) -> u8
 /// Runs the program. Want of memory, or of room for the text, comes as that.
 pub fn run_on(alloc: Global, words: &[u8], document: &[u8]) -> Result<Whole, OutOfMemory>
     ensures answer { IfOk result (λ whole. (names : NameLists) × (said : Said)
-        × MayBeAnswered (words_in words.now) document.now names said
-        × (whole.text.items ≡ answer_line (layout_of (words_in words.now)) names said)
+        × MayBeAnswered (request_of (words_in words.now)) document.now names said
+        × (whole.text.items ≡ answer_line (layout_of (request_of (words_in words.now))) names said)
         × (whole.status ≡ status_of said)) }
     ensures few { IfOk result (λ whole. length whole.text.items ≤ 4294967296) }
 {

@@ -9,8 +9,12 @@ use Rattle.tn_names.specs.Names.{NameLists}
 use Rattle.tn_file.specs.Document.{reading_of}
 use Rattle.tn_run.specs.declared.command.Command.{Command}
 use Rattle.tn_run.specs.Answer.{document_limit, IsAnswerTo, AnswersBytes, MayBeSaid}
-use Rattle.tn_run.specs.Complete.{NoneCounted, IsAnswerToAll, AnswersAll}
+use Rattle.tn_run.specs.declared.request.Request.{Request}
+use Rattle.tn_run.specs.declared.request.Request.TheVariants.{Document}
+use Rattle.tn_run.specs.Complete.{NoneCounted, IsAnswerToAll, SaysOfAll, AnswersAll}
+use Rattle.tn_run.specs.Request.{layout_of}
 use Rattle.tn_run.specs.Run.{IsWrittenWhole, IsWritten}
+use Rattle.tn_run.specs.Saying.{MaySay}
 use Rattle.tn_run.specs.Words.{need_of}
 
 -- a source that tells its bytes has as many as are taken
@@ -53,25 +57,27 @@ whole_written : (old new : Option (List ℕ)) (before after : ℕ) (layout : Lay
 whole_written old new before after layout names said status quiet written =
     elim written [ inl whole ↦ whole | inr cut ↦ absurd (quiet cut.cause) ]
 
--- the counts of faults of a run's two ends
-pub record Counts : Type 0 where
-  pub source_before : ℕ
-  pub source_after : ℕ
-  pub sink_before : ℕ
-  pub sink_after : ℕ
+-- what is said on a request is said of all bytes, where the source tells them and counted no fault
+says_of_all : {S : Type 0} (left : S → Option (List ℕ)) (faults : S → ℕ) (request : Request) (all : List ℕ)
+    (source last : S) (names : NameLists) (said : Said)
+    → left source ≡ Some all → NoneCounted (faults source) (faults last)
+    → MaySay left faults request source last names said → SaysOfAll request all names said
+says_of_all left faults (Document command layout) all source last names said tells quiet may =
+    said_of_all command all (left last) (faults source) (faults last) names said quiet
+    (subst (λ (told : Option (List ℕ)). MayBeSaid command told (left last) (faults source) (faults last) names said)
+    tells may)
+says_of_all left faults request all source last names said tells quiet may = may.1
 
 -- a run is complete where neither end counted a fault
-pub complete_run : (command : Command) (layout : Layout) (all : List ℕ) (told left old new : Option (List ℕ))
-    (counts : Counts) (names : NameLists) (said : Said) (status : ℕ)
-    → told ≡ Some all → NoneCounted counts.source_before counts.source_after
-    → NoneCounted counts.sink_before counts.sink_after
-    → MayBeSaid command told left counts.source_before counts.source_after names said
-    → IsWritten old new counts.sink_before counts.sink_after layout names said status
-    → AnswersAll command layout all old new names said status
-complete_run command layout all told left old new counts names said status tells quiet_source quiet_sink may written =
+pub complete_run : {S : Type 0} (left : S → Option (List ℕ)) (faults : S → ℕ) (request : Request) (all : List ℕ)
+    (source last : S) (old new : Option (List ℕ)) (before after : ℕ) (names : NameLists) (said : Said) (status : ℕ)
+    → left source ≡ Some all → NoneCounted (faults source) (faults last) → NoneCounted before after
+    → MaySay left faults request source last names said
+    → IsWritten old new before after (layout_of request) names said status
+    → AnswersAll request all old new names said status
+complete_run left faults request all source last old new before after names said status tells quiet_source quiet_sink
+    may written =
     record {
-      answer = said_of_all command all left counts.source_before counts.source_after names said quiet_source
-          (subst (λ (o : Option (List ℕ)). MayBeSaid command o left counts.source_before counts.source_after names said)
-          tells may);
-      written = whole_written old new counts.sink_before counts.sink_after layout names said status quiet_sink written;
+      answer = says_of_all left faults request all source last names said tells quiet_source may;
+      written = whole_written old new before after (layout_of request) names said status quiet_sink written;
     }

@@ -10,6 +10,10 @@ use Rattle.tn_run.specs.declared.command.Command.{Command}
 use Rattle.tn_run.specs.declared.command.Command.TheVariants.{Check, Firms, Judge, Range, Replay, Session, Solve, Support, Test}
 use Rattle.tn_run.specs.Answer.{AnswersBytes, IsAnswerTo, MayBeSaid}
 use Rattle.tn_run.specs.Headline.{IsHeadline, KeepsPromise, ShowsFault, is_headlined}
+use Rattle.tn_run.specs.declared.request.Request.{Request}
+use Rattle.tn_run.specs.declared.request.Request.TheVariants.{Document}
+use Rattle.tn_run.specs.Request.{IfDocument}
+use Rattle.tn_run.specs.Saying.{MaySay}
 use Rattle.tn_run.specs.Words.{need_of}
 
 -- what is promised of the document that the bytes stand for, or their first fault
@@ -45,7 +49,8 @@ headline_of_bytes command old new before after names said headlined answers = el
   })
 ]
 
-pub headline : (command : Command) (old new : Option (List ℕ)) (before after : ℕ) (names : NameLists) (said : Said)
+-- the headline, from what may be said after a document was read
+headline : (command : Command) (old new : Option (List ℕ)) (before after : ℕ) (names : NameLists) (said : Said)
     → is_headlined command ≡ true
     → MayBeSaid command old new before after names said → IsHeadline command old new before after said
 headline command old new before after names Usage headlined may = absurd may
@@ -53,3 +58,12 @@ headline command old new before after names ReadFault headlined may = inr (inr (
 headline command old new before after names NoMemory headlined may = inr (inr (inr refl))
 headline command old new before after names said headlined may =
     headline_of_bytes command old new before after names said headlined may
+
+-- the headline of a request, from what may be said on it
+pub headline_on : {S : Type 0} (left : S → Option (List ℕ)) (faults : S → ℕ) (request : Request) (old new : S)
+    (names : NameLists) (said : Said) → MaySay left faults request old new names said
+    → IfDocument request (λ command layout. is_headlined command ≡ true
+    → IsHeadline command (left old) (left new) (faults old) (faults new) said)
+headline_on left faults (Document command layout) old new names said may = λ headlined.
+    headline command (left old) (left new) (faults old) (faults new) names said headlined may
+headline_on left faults request old new names said may = tt

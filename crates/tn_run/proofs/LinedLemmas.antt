@@ -1,8 +1,7 @@
 -- A run by lines, from one line after another.
 use Rattle.std.proofs.Common.{◌≡◌, ℕ, ◌+◌, ◌≤◌, ◌==◌, ◌||◌, Bool, true, false, if◌then◌else◌, List, [], ◌∷◌, ◌++◌, length, take, refl, sym, ap, subst, ◌∙◌, ◌⊎◌, inl, inr, arith, append-nil}
-use Rattle.std.specs.Prelude.{Option, Some}
+use Rattle.std.specs.Prelude.{Option, None, Some, IfSome}
 use Rattle.std.proofs.lemmas.Bool.{cases_lt}
-use Rattle.std.proofs.lemmas.Option.{same_Some}
 use Rattle.std.proofs.lemmas.List.{map-append, length-map, length_push}
 use Rattle.std.proofs.lemmas.List.Concat.{flat_map-append}
 use Rattle.std.proofs.lemmas.List.Elements.{All-push}
@@ -300,7 +299,7 @@ whole_answer old new before after names said status written kept =
     elim written [ inl whole ↦ whole | inr cut ↦ absurd (kept cut.status_is) ]
 
 -- all lines are answered where neither end counts a fault
-pub complete_lines : (command : Command) (told old new : Option (List ℕ))
+complete_lines : (command : Command) (told old new : Option (List ℕ))
     (source_before source_after sink_before sink_after status : ℕ)
     → IsLinedRun command told source_before source_after old new sink_before sink_after status
     → NoneCounted source_before source_after → NoneCounted sink_before sink_after
@@ -314,13 +313,25 @@ complete_lines command told old new source_before source_after sink_before sink_
       ]
     ]
 
--- what a run by lines came to, of the command that the words ask for and of the program's exit status
-pub lined_as_asked : (found : Option Command) (ran asked : Command) (told old new : Option (List ℕ)) (faults : Faults)
-    (status exit : ℕ) → found ≡ Some ran → found ≡ Some asked → exit ≡ status
+-- what a run by lines came to, of the command that is asked for and of the program's exit status
+pub lined_as_asked : (asked : Option Command) (ran : Command) (told old new : Option (List ℕ)) (faults : Faults)
+    (status exit : ℕ) → asked ≡ Some ran → exit ≡ status
     → IsLinedRun ran told faults.source_first faults.source_last old new faults.sink_first faults.sink_last status
-    → IsLinedRun asked told faults.source_first faults.source_last old new faults.sink_first faults.sink_last exit
-lined_as_asked found ran asked told old new faults status exit runs asks is run =
-    subst (λ (n : ℕ). IsLinedRun asked told faults.source_first faults.source_last old new faults.sink_first
-    faults.sink_last n) (sym is)
-    (subst (λ (command : Command). IsLinedRun command told faults.source_first faults.source_last old new
-    faults.sink_first faults.sink_last status) (same_Some ran asked (sym runs ∙ asks)) run)
+    → IfSome asked (λ command. IsLinedRun command told faults.source_first faults.source_last old new
+    faults.sink_first faults.sink_last exit)
+lined_as_asked asked ran told old new faults status exit asks is run =
+    subst (λ (found : Option Command). IfSome found (λ command. IsLinedRun command told faults.source_first
+    faults.source_last old new faults.sink_first faults.sink_last exit)) (sym asks)
+    (subst (λ (n : ℕ). IsLinedRun ran told faults.source_first faults.source_last old new faults.sink_first
+    faults.sink_last n) (sym is) run)
+
+-- all lines are answered where neither end counts a fault
+pub complete_as_asked : (asked : Option Command) (told old new : Option (List ℕ)) (faults : Faults) (exit : ℕ)
+    → IfSome asked (λ command. IsLinedRun command told faults.source_first faults.source_last old new
+    faults.sink_first faults.sink_last exit)
+    → IfSome asked (λ command. NoneCounted faults.source_first faults.source_last
+    → NoneCounted faults.sink_first faults.sink_last → AnswersLines command told old new exit)
+complete_as_asked (Some command) told old new faults exit run = λ quiet_source quiet_sink.
+    complete_lines command told old new faults.source_first faults.source_last faults.sink_first faults.sink_last exit
+    run quiet_source quiet_sink
+complete_as_asked None told old new faults exit run = tt

@@ -7,9 +7,10 @@ mod command;
 mod exit;
 mod lines;
 mod numbers;
+mod request;
 mod top;
 
 pub use casing::run_cases;
-pub use command::are_no_command;
 pub use exit::run_to_exit;
+pub use request::{Request, request_of};
 pub use top::{Run, run_market, run_steadily};

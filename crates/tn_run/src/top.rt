@@ -1,24 +1,21 @@
 //! The top call: words, reading, the answer, writing.
 
-ghost use Rattle.std.specs.Prelude.{◌≡◌, ◌≢◌, ◌≤◌, ◌⊎◌, ℕ, true, false, List, None, Some, map, string_bytes};
+ghost use Rattle.std.specs.Prelude.{◌≡◌, ◌≢◌, ◌≤◌, ◌⊎◌, true, List, ℕ, Some, map, string_bytes};
 ghost use Rattle.tn_answer.specs.AnswerText.{answer_line};
-ghost use Rattle.tn_answer.specs.declared.layout.Layout.{Layout};
-ghost use Rattle.tn_said.specs.declared.said.Page.{Page};
-ghost use Rattle.tn_names.specs.Names.{NameLists};
 ghost use Rattle.tn_answer.specs.Kept.{IsWithinClaims};
+ghost use Rattle.tn_answer.specs.declared.layout.Layout.{Layout};
 ghost use Rattle.tn_drill.specs.Draws.{most_drilled, most_start};
-ghost use Rattle.tn_run.specs.Answer.{MayBeSaid};
-ghost use Rattle.tn_run.specs.Cases.{MayBeCases};
+ghost use Rattle.tn_names.specs.Names.{NameLists};
 ghost use Rattle.tn_run.specs.Complete.{AnswersAll, NoneCounted};
-ghost use Rattle.tn_run.specs.Headline.{IsHeadline, is_headlined};
-ghost use Rattle.tn_run.specs.Run.{IsWritten, IsWrittenWhole, status_of};
 ghost use Rattle.tn_run.specs.Drilled.{MayBeDrilled};
-ghost use Rattle.tn_run.specs.Words.{asks_for_cases, command_of, drill_of, layout_of, page_of};
-ghost use Rattle.tn_run.specs.declared.command.Command.{Command};
+ghost use Rattle.tn_run.specs.Headline.{IsHeadline, is_headlined};
+ghost use Rattle.tn_run.specs.Request.{IfDocument, IsWithinBounds, layout_of, request_of};
+ghost use Rattle.tn_run.specs.Run.{IsWritten, status_of};
+ghost use Rattle.tn_run.specs.Saying.{MaySay, has_fixed_text};
 
 use crate::answer::answer_source;
 use crate::casing::cases;
-use crate::command::{asks_for_cases, command_of, drill_of, layout_of, page_of};
+use crate::request::{Request, layout_of, request_of};
 use std::alloc::Global;
 use tn_answer::{
     Layout, Names, answer_text, no_memory_text, page_text, read_fault_text, usage_text,
@@ -113,6 +110,7 @@ pub(crate) fn tell<K: Sink>(
 ) -> Run
     requires { IsWithinClaims said }
     ensures said { (result.said ≡ said) ⊎ (result.said ≡ Said.NoMemory) }
+    ensures fixed { has_fixed_text said ≡ true → result.said ≡ said }
     ensures within { IsWithinClaims result.said }
     ensures written { IsWritten (K.written sink.old) (K.written sink.new) (K.faults sink.old) (K.faults sink.new) layout
         names.now result.said result.status }
@@ -120,6 +118,7 @@ pub(crate) fn tell<K: Sink>(
 {
     match said {
         Said::Usage => write_line(sink, usage_text(), said),
+        Said::Page(page) => write_line(sink, page_text(page), Said::Page(page)),
         Said::ReadFault => write_line(sink, read_fault_text(), said),
         Said::NoMemory => write_line(sink, no_memory_text(), said),
         said => match answer_text(alloc, names, &said, layout) {
@@ -146,38 +145,19 @@ fn drilled(alloc: Global, size: u32, start: u32) -> Said
     }
 }
 
-/// The run on words that ask for no document: a drill, the program's own cases, a page, or no command.
-fn run_without_reading<K: Sink>(
-    alloc: Global,
-    words: &[String],
-    sink: &mut K,
-    names: &Names,
-    layout: Layout,
-) -> Run
-    ensures usage { drill_of (map string_bytes words.now) ≡ None → asks_for_cases (map string_bytes words.now) ≡ false
-        → page_of (map string_bytes words.now) ≡ None
-        → result.said ≡ Said.Usage }
-    ensures page { (page : Page) → page_of (map string_bytes words.now) ≡ Some page → result.said ≡ Said.Page page }
-    ensures cases { asks_for_cases (map string_bytes words.now) ≡ true → MayBeCases result.said }
-    ensures drill { (size start : ℕ) → drill_of (map string_bytes words.now) ≡ Some (size, start)
-        → MayBeDrilled size start result.said }
-    ensures within { IsWithinClaims result.said }
-    ensures written { IsWritten (K.written sink.old) (K.written sink.new) (K.faults sink.old) (K.faults sink.new) layout
-        names.now result.said result.status }
+/// What is said on a request, with the names that it is over.
+fn say<S: Source>(alloc: Global, request: Request, source: &mut S) -> (Said, Names)
+    requires { IsWithinBounds request }
+    ensures said { MaySay S.left S.faults request source.old source.new result.1 result.0 }
+    ensures within { IsWithinClaims result.0 }
 {
-    if asks_for_cases(words) {
-        let said = cases(alloc);
-        return tell(alloc, names, said, layout, sink);
-    }
-    if let Some(page) = page_of(words) {
-        return write_line(sink, page_text(page), Said::Page(page));
-    }
-    match drill_of(words) {
-        None => write_line(sink, usage_text(), Said::Usage),
-        Some((size, start)) => {
-            let said = drilled(alloc, size, start);
-            tell(alloc, names, said, layout, sink)
-        }
+    match request {
+        Request::Document { command, .. } => answer_source(alloc, command, source),
+        Request::Drill { size, start } => (drilled(alloc, size, start), Names::empty(alloc)),
+        Request::Cases => (cases(alloc), Names::empty(alloc)),
+        Request::Page(page) => (Said::Page(page), Names::empty(alloc)),
+        // `run_to_exit` alone answers line by line.
+        Request::Usage | Request::Lines(_) => (Said::Usage, Names::empty(alloc)),
     }
 }
 
@@ -188,74 +168,44 @@ fn run_with<S: Source, K: Sink>(
     source: &mut S,
     sink: &mut K,
 ) -> (Run, Names)
-    ensures usage { command_of (map string_bytes words.now) ≡ None → drill_of (map string_bytes words.now) ≡ None
-        → asks_for_cases (map string_bytes words.now) ≡ false → page_of (map string_bytes words.now) ≡ None
-        → (result.0.said ≡ Said.Usage) × (source.new ≡ source.old) }
-    ensures page { (page : Page) → page_of (map string_bytes words.now) ≡ Some page → (source.new ≡ source.old)
-        × (result.0.said ≡ Said.Page page) }
-    ensures cases { asks_for_cases (map string_bytes words.now) ≡ true → (source.new ≡ source.old)
-        × MayBeCases result.0.said }
-    ensures drill { (size start : ℕ) → drill_of (map string_bytes words.now) ≡ Some (size, start)
-        → (source.new ≡ source.old) × MayBeDrilled size start result.0.said }
-    ensures answer { (command : Command) → command_of (map string_bytes words.now) ≡ Some command
-        → MayBeSaid command (S.left source.old) (S.left source.new) (S.faults source.old) (S.faults source.new) result.1
+    ensures said { MaySay S.left S.faults (request_of (map string_bytes words.now)) source.old source.new result.1
         result.0.said }
     ensures within { IsWithinClaims result.0.said }
     ensures written { IsWritten (K.written sink.old) (K.written sink.new) (K.faults sink.old) (K.faults sink.new)
-        (layout_of (map string_bytes words.now)) result.1 result.0.said result.0.status }
+        (layout_of (request_of (map string_bytes words.now))) result.1 result.0.said result.0.status }
 {
-    let layout = layout_of(words);
-    match command_of(words) {
-        None => {
-            let names = Names::empty(alloc);
-            let run = run_without_reading(alloc, words, sink, &names, layout);
-            (run, names)
-        }
-        Some(command) => {
-            let (said, names) = answer_source(alloc, command, source);
-            (tell(alloc, &names, said, layout, sink), names)
-        }
-    }
+    let request = request_of(words);
+    let (said, names) = say(alloc, request, source);
+    let run = tell(alloc, &names, said, layout_of(request), sink);
+    (run, names)
 }
 
-/// Runs the program on its words: reads the source, unless they are no command, a drill, the cases or a page, answers,
-/// and writes the answer's text to the sink.
+/// Runs the program on its words: reads the source, if they ask for the answer to a document, answers, and writes the
+/// answer's text to the sink.
 pub fn run_market<S: Source, K: Sink>(
     alloc: Global,
     words: &[String],
     source: &mut S,
     sink: &mut K,
 ) -> Run
-    // Words that are no command: the source is as at entry.
-    ensures usage { command_of (map string_bytes words.now) ≡ None → drill_of (map string_bytes words.now) ≡ None
-        → asks_for_cases (map string_bytes words.now) ≡ false → page_of (map string_bytes words.now) ≡ None
-        → (result.said ≡ Said.Usage) × (source.new ≡ source.old) }
-    ensures page { (page : Page) → page_of (map string_bytes words.now) ≡ Some page → (source.new ≡ source.old)
-        × (result.said ≡ Said.Page page) }
-    ensures cases { asks_for_cases (map string_bytes words.now) ≡ true → (source.new ≡ source.old)
-        × MayBeCases result.said }
-    ensures drill { (size start : ℕ) → drill_of (map string_bytes words.now) ≡ Some (size, start)
-        → (source.new ≡ source.old) × MayBeDrilled size start result.said }
-    // Words that are a command: what the source gave is answered. A source that tells its bytes, and no fault counted
-    // at either end: the defined answer for them, or want of memory. What was written is the answer's text, or a
-    // prefix.
+    // On each request of the words, what may be said, over some names: of a document the answer to what the source
+    // gave; else, with the source as at entry, the page, the drill, the cases or usage. Of a source that tells its
+    // bytes, and with no fault counted at either end: the defined answer for them, or want of memory. What was written
+    // is the answer's text, or a prefix.
     ensures answer { (names : NameLists)
-        × ((command : Command) → command_of (map string_bytes words.now) ≡ Some command
-        → MayBeSaid command (S.left source.old) (S.left source.new) (S.faults source.old) (S.faults source.new) names
-        result.said)
-        × ((command : Command) (all : List ℕ) → command_of (map string_bytes words.now) ≡ Some command
-        → S.left source.old ≡ Some all
+        × MaySay S.left S.faults (request_of (map string_bytes words.now)) source.old source.new names result.said
+        × ((all : List ℕ) → S.left source.old ≡ Some all
         → NoneCounted (S.faults source.old) (S.faults source.new) → NoneCounted (K.faults sink.old) (K.faults sink.new)
-        → AnswersAll command (layout_of (map string_bytes words.now)) all (K.written sink.old) (K.written sink.new)
-        names result.said result.status)
+        → AnswersAll (request_of (map string_bytes words.now)) all (K.written sink.old) (K.written sink.new) names
+        result.said result.status)
         × IsWritten (K.written sink.old) (K.written sink.new) (K.faults sink.old) (K.faults sink.new)
-        (layout_of (map string_bytes words.now)) names result.said result.status }
+        (layout_of (request_of (map string_bytes words.now))) names result.said result.status }
     // The headline, of `solve` and `judge`: whatever bytes they read, the answer is what is promised, or a fault that
     // the input or the source shows, or want of memory. (That the sink shows a fault is in `answer`.)
-    ensures headline { (command : Command) → command_of (map string_bytes words.now) ≡ Some command
-        → is_headlined command ≡ true
+    ensures headline { IfDocument (request_of (map string_bytes words.now))
+        (λ command layout. is_headlined command ≡ true
         → IsHeadline command (S.left source.old) (S.left source.new) (S.faults source.old) (S.faults source.new)
-        result.said }
+        result.said) }
     ensures within { IsWithinClaims result.said }
 {
     let (run, names) = run_with(alloc, words, source, sink);
@@ -270,25 +220,13 @@ pub fn run_steadily(
     source: &mut SteadySource,
     sink: &mut SteadySink,
 ) -> Run
-    ensures usage { command_of (map string_bytes words.now) ≡ None → drill_of (map string_bytes words.now) ≡ None
-        → asks_for_cases (map string_bytes words.now) ≡ false → page_of (map string_bytes words.now) ≡ None
-        → (result.said ≡ Said.Usage) × (source.new ≡ source.old) }
-    ensures page { (page : Page) → page_of (map string_bytes words.now) ≡ Some page → (source.new ≡ source.old)
-        × (result.said ≡ Said.Page page) }
-    ensures cases { asks_for_cases (map string_bytes words.now) ≡ true → (source.new ≡ source.old)
-        × MayBeCases result.said }
-    ensures drill { (size start : ℕ) → drill_of (map string_bytes words.now) ≡ Some (size, start)
-        → (source.new ≡ source.old) × MayBeDrilled size start result.said }
-    // Words that are a command: what the source gave is answered, by the defined answer for all bytes or want of
-    // memory. The answer's text was written whole.
+    // On each request of the words, what may be said: of a document the answer to what the source gave, which is the
+    // defined one for all bytes or want of memory. The answer's text was written whole.
     ensures answer { (names : NameLists)
-        × ((command : Command) → command_of (map string_bytes words.now) ≡ Some command
-        → MayBeSaid command (Some source.old.unread) (Some source.new.unread) 0 0 names result.said)
-        × ((command : Command) → command_of (map string_bytes words.now) ≡ Some command
-        → AnswersAll command (layout_of (map string_bytes words.now)) source.old.unread sink.old.told sink.new.told
-        names result.said result.status)
-        × IsWrittenWhole sink.old.told sink.new.told (layout_of (map string_bytes words.now)) names result.said
-        result.status }
+        × MaySay (λ steady. Some steady.unread) (λ _. 0) (request_of (map string_bytes words.now)) source.old source.new
+        names result.said
+        × AnswersAll (request_of (map string_bytes words.now)) source.old.unread sink.old.told sink.new.told names
+        result.said result.status }
     ensures within { IsWithinClaims result.said }
     ensures read { result.status ≢ 3 }
     ensures written { result.status ≢ 4 }

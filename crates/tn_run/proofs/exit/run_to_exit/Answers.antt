@@ -1,15 +1,15 @@
 -- What shows the clauses of `run_to_exit` of `src/exit.rt`.
-use Rattle.std.proofs.Common.{ℕ, sym, subst, ◌∙◌, map, string_bytes}
-use Rattle.tn_run.specs.Words.{layout_of}
+use Rattle.std.proofs.Common.{ℕ, sym, subst, ap, ◌∙◌, map, string_bytes}
 use Rattle.tn_run.specs.Complete.{AnswersAll}
+use Rattle.tn_run.specs.Request.{layout_of, lines_command, request_of}
 use Rattle.tn_run.specs.Run.{IsWritten}
-use Rattle.tn_run.proofs.LinedLemmas.{complete_lines, lined_as_asked}
+use Rattle.tn_run.proofs.LinedLemmas.{complete_as_asked, lined_as_asked}
 use Rattle.tn_run.proofs.exit.run_to_exit.Goals as goal
 
 pub returns-in-Some-clause-lines : goal.returns-in-Some-clause-lines
-returns-in-Some-clause-lines g c = λ command is.
-    lined_as_asked c.lines_command_of.result c.in-Some.command command (g.S.Source.left c.args.source.now)
-    (g.K.Sink.written c.args.sink.now) (g.K.Sink.written c.run_lines.new.sink)
+returns-in-Some-clause-lines g c =
+    lined_as_asked (lines_command (request_of (map string_bytes c.args.words.now))) c.in-Some.command
+    (g.S.Source.left c.args.source.now) (g.K.Sink.written c.args.sink.now) (g.K.Sink.written c.run_lines.new.sink)
     (record {
       source_first = g.S.Source.faults c.args.source.now;
       source_last = g.S.Source.faults c.run_lines.new.source;
@@ -17,34 +17,40 @@ returns-in-Some-clause-lines g c = λ command is.
       sink_middle = g.K.Sink.faults c.args.sink.now;
       sink_last = g.K.Sink.faults c.run_lines.new.sink;
     })
-    c.run_lines.result _ c.in-Some.is (c.lines_command_of.ensures ∙ is) c.from.ensures c.run_lines.ensures
+    c.run_lines.result _
+    (ap lines_command (sym c.request_of.ensures.request) ∙ sym c.lines_command.ensures ∙ c.in-Some.is) c.from.ensures
+    c.run_lines.ensures
 
 pub returns-in-Some-clause-all_lines : goal.returns-in-Some-clause-all_lines
-returns-in-Some-clause-all_lines g c = λ command is quiet_source quiet_sink.
-    complete_lines command _ _ _ _ _ _ _ _ (returns-in-Some-clause-lines g c command is) quiet_source quiet_sink
+returns-in-Some-clause-all_lines g c =
+    complete_as_asked (lines_command (request_of (map string_bytes c.args.words.now)))
+    (g.S.Source.left c.args.source.now) (g.K.Sink.written c.args.sink.now) (g.K.Sink.written c.run_lines.new.sink)
+    (record {
+      source_first = g.S.Source.faults c.args.source.now;
+      source_last = g.S.Source.faults c.run_lines.new.source;
+      sink_first = g.K.Sink.faults c.args.sink.now;
+      sink_middle = g.K.Sink.faults c.args.sink.now;
+      sink_last = g.K.Sink.faults c.run_lines.new.sink;
+    }) _ (returns-in-Some-clause-lines g c)
 
 pub returns-in-None-clause-answer : goal.returns-in-None-clause-answer
 returns-in-None-clause-answer g c =
     let run = c.run_market.result in
     let answers = c.run_market.ensures.answer in
+    let request = request_of (map string_bytes c.args.words.now) in
     λ _. (
       run.said,
       answers.0,
-      c.run_market.ensures.usage,
-      c.run_market.ensures.page,
-      c.run_market.ensures.cases,
-      c.run_market.ensures.drill,
       answers.1,
       c.run_market.ensures.headline,
-      λ command all is told quiet_source quiet_sink.
-          subst (λ (status : ℕ). AnswersAll command (layout_of (map string_bytes c.args.words.now)) all
-          (g.K.Sink.written c.args.sink.now) (g.K.Sink.written c.run_market.new.sink) answers.0 run.said status)
-          (sym (c.from-in-None.ensures ∙ c.into_status.ensures))
-          (answers.2 command all is told quiet_source quiet_sink),
+      λ all told quiet_source quiet_sink.
+          subst (λ (status : ℕ). AnswersAll request all (g.K.Sink.written c.args.sink.now)
+          (g.K.Sink.written c.run_market.new.sink) answers.0 run.said status)
+          (sym (c.from-in-None.ensures ∙ c.into_status.ensures)) (answers.2 all told quiet_source quiet_sink),
       c.run_market.ensures.within,
       subst
           (λ (status : ℕ). IsWritten (g.K.Sink.written c.args.sink.now) (g.K.Sink.written c.run_market.new.sink)
-          (g.K.Sink.faults c.args.sink.now) (g.K.Sink.faults c.run_market.new.sink)
-          (layout_of (map string_bytes c.args.words.now)) answers.0 run.said status)
+          (g.K.Sink.faults c.args.sink.now) (g.K.Sink.faults c.run_market.new.sink) (layout_of request) answers.0
+          run.said status)
           (sym (c.from-in-None.ensures ∙ c.into_status.ensures)) answers.3,
     )

@@ -1,16 +1,14 @@
 -- What shows the clauses of `run_with` of `src/top.rt`.
-use Rattle.std.proofs.Common.{sym, subst, ◌∙◌}
-use Rattle.std.proofs.lemmas.Option.{same_Some}
-use Rattle.tn_run.specs.Answer.{MayBeSaid}
-use Rattle.tn_run.specs.declared.command.Command.{Command}
-use Rattle.tn_run.proofs.TakenLemmas.{may_run_out}
+use Rattle.std.proofs.Common.{subst}
+use Rattle.tn_run.specs.Saying.{MaySay}
+use Rattle.tn_run.specs.declared.request.Request.{Request}
+use Rattle.tn_run.proofs.TakenLemmas.{may_be_told}
 use Rattle.tn_run.proofs.top.run_with.Goals as goal
 
-pub returns-in-Some-clause-answer : goal.returns-in-Some-clause-answer
-returns-in-Some-clause-answer g c = λ command is.
-    may_run_out command _ _ _ _ _ c.answer_source-said.result.0 c.tell.result.said
-    (subst (λ (asked : Command). MayBeSaid asked (g.S.Source.left c.args.source.now)
-    (g.S.Source.left c.answer_source-said.new.source) (g.S.Source.faults c.args.source.now)
-    (g.S.Source.faults c.answer_source-said.new.source) c.answer_source-said.result.1 c.answer_source-said.result.0)
-    (same_Some c.in-Some.command command (sym c.in-Some.is ∙ c.command_of.ensures ∙ is))
-    c.answer_source-said.ensures.answer) c.tell.ensures.said
+pub returns-clause-said : goal.returns-clause-said
+returns-clause-said g c =
+    subst (λ (request : Request). MaySay g.S.Source.left g.S.Source.faults request c.args.source.now
+    c.say-said.new.source c.say-said.result.1 c.tell-run.result.said) c.request_of-request.ensures.request
+    (may_be_told g.S.Source.left g.S.Source.faults c.request_of-request.result c.args.source.now c.say-said.new.source
+    c.say-said.result.1 c.say-said.result.0 c.tell-run.result.said c.say-said.ensures.said c.tell-run.ensures.said
+    c.tell-run.ensures.fixed)
