@@ -3,8 +3,8 @@
 /** What the program answers is at most this long, in most cases; where it is longer it says so, and is asked again. */
 const ROOM = 1 << 16;
 
-/** The exit status that says that the answer is longer than the room for it. */
-const LONGER = 4;
+/** What stands in place of the exit status where the answer is longer than the room for it. */
+const LONGER = 8;
 
 /** Memory was refused. */
 class Refused extends Error {}

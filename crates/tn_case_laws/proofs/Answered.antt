@@ -9,6 +9,7 @@ use Rattle.tn_said.specs.declared.said.Said.{Said}
 use Rattle.tn_run.specs.Answer.{IsAnswerOf, IsAnswerTo}
 use Rattle.tn_run.specs.Cases.{IsCaseAnswer, IsAllowed}
 use Rattle.tn_run.specs.Run.{status_of}
+use Rattle.tn_run.specs.Status.{status_number}
 use Rattle.tn_run.specs.Words.{case_command, case_layout, need_of}
 use Rattle.tn_run.specs.declared.command.Command.{Command}
 use Rattle.tn_case_laws.specs.Laws.{HasOneAnswer}
@@ -16,7 +17,7 @@ use Rattle.tn_case_laws.specs.Laws.{HasOneAnswer}
 pub one_answer : (case : CaseData) (command : Command) (doc : DocumentData) (said : Said)
     → case_command case.command ≡ Some command → reading_of (need_of command) case.document ≡ Ok doc
     → IsAnswerOf command doc said → ((other : Said) → IsAnswerOf command doc other → other ≡ said)
-    → case.status ≡ status_of said → case.text ≡ answer_line (case_layout case.command) doc.names said
+    → case.status ≡ status_number (status_of said) → case.text ≡ answer_line (case_layout case.command) doc.names said
     → HasOneAnswer case
 one_answer case command doc said command_is reading_is answers only_said status_is text_is = record {
   allowed = record {
@@ -40,7 +41,7 @@ one_answer case command doc said command_is reading_is answers only_said status_
         let layout = case_layout case.command in
         let lines : answer_line layout allowed.names allowed.said ≡ answer_line layout doc.names said =
         λ i. answer_line layout (same_names i) (same i) in
-        (allowed.status_is ∙ ap status_of same ∙ sym status_is, allowed.text_is ∙ lines ∙ sym text_is)
+        (allowed.status_is ∙ ap (λ (one : Said). status_number (status_of one)) same ∙ sym status_is, allowed.text_is ∙ lines ∙ sym text_is)
 
 -- what holds of the elements one after the other holds of each
 pub each_in : {X : Type 0} (P : X → Type 0) (xs : List X) → AllByRecursion P xs → (k : ℕ) (y : X)

@@ -6,6 +6,7 @@ ghost use Rattle.tn_names.specs.Names.{NameLists};
 ghost use Rattle.tn_said.specs.declared.said.Said.{Said};
 ghost use Rattle.tn_run.specs.Request.{layout_of, request_of};
 ghost use Rattle.tn_run.specs.Run.{status_of};
+ghost use Rattle.tn_run.specs.Status.{status_number};
 ghost use Rattle.tn_page.specs.Answered.{MayBeAnswered};
 ghost use Rattle.tn_page.specs.Words.{words_in};
 
@@ -38,7 +39,7 @@ pub fn run_on(alloc: Global, words: &[u8], document: &[u8]) -> Result<Whole, Out
     ensures answer { IfOk result (λ whole. (names : NameLists) × (said : Said)
         × MayBeAnswered (request_of (words_in words.now)) document.now names said
         × (whole.text.items ≡ answer_line (layout_of (request_of (words_in words.now))) names said)
-        × (whole.status ≡ status_of said)) }
+        × (whole.status ≡ status_number (status_of said))) }
     ensures few { IfOk result (λ whole. length whole.text.items ≤ 4294967296) }
 {
     let words = words_of(alloc, words)?;

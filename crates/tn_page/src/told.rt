@@ -3,8 +3,8 @@
 ghost use Rattle.std.specs.Prelude.{◌≤◌, length};
 ghost use Rattle.tn_page.specs.Told.{IsTold};
 
-/// What stands in place of the status where the text is longer than the room for it.
-const LONGER: u64 = 4;
+/// What stands in place of the status where the text is longer than the room for it. No run has this status.
+const LONGER: u64 = 8;
 
 /// Puts a text at the start of `out`, and answers 256 times its length, and the status. Where it is longer than `out`,
 /// that stays as it was, and `LONGER` stands in place of the status. A text has at most 4,294,967,296 bytes.

@@ -19,11 +19,12 @@ use Rattle.tn_names.specs.Names.{NameLists}
 use Rattle.tn_run.specs.Answer.{document_limit}
 use Rattle.tn_run.specs.Cases.{AreFailed, IsCaseAnswer, IsPassed}
 use Rattle.tn_run.specs.Run.{status_of}
+use Rattle.tn_run.specs.Status.{status_number}
 use Rattle.tn_run.specs.Words.{case_command, case_layout}
 
 -- a run of a case comes to what the case says, or to something else
 pub passed_or_not : (case : CaseData) (names : NameLists) (said : Said) (status : ℕ) (text : List ℕ) (agrees : Bool)
-    → IsCaseAnswer (case_command case.command) case.document names said → status ≡ status_of said
+    → IsCaseAnswer (case_command case.command) case.document names said → status ≡ status_number (status_of said)
     → text ≡ answer_line (case_layout case.command) names said
     → agrees ≡ agrees_with status text case → IsPassed agrees case
 passed_or_not case names said status text agrees answer status_is text_is decided =
@@ -53,14 +54,14 @@ pub run_decides : {E : Type 0} (found : Option CaseData) (case : CaseData) (name
     (result : Result Bool E)
     → found ≡ Some case → IsCaseAnswer (case_command case.command) case.document names said
     → IfOk result (λ agrees. Some agrees
-    ≡ option_map (agrees_with (status_of said) (answer_line (case_layout case.command) names said)) found)
+    ≡ option_map (agrees_with (status_number (status_of said)) (answer_line (case_layout case.command) names said)) found)
     → IfOk result (λ agrees. IfSome found (IsPassed agrees))
 run_decides found case names said (Ok agrees) is answer decided =
     subst (λ (one : Option CaseData). IfSome one (IsPassed agrees)) (sym is)
-    (passed_or_not case names said (status_of said) (answer_line (case_layout case.command) names said) agrees answer
+    (passed_or_not case names said (status_number (status_of said)) (answer_line (case_layout case.command) names said) agrees answer
     refl refl
-    (same_Some agrees (agrees_with (status_of said) (answer_line (case_layout case.command) names said) case) (decided
-    ∙ ap (option_map (agrees_with (status_of said) (answer_line (case_layout case.command) names said))) is)))
+    (same_Some agrees (agrees_with (status_number (status_of said)) (answer_line (case_layout case.command) names said) case) (decided
+    ∙ ap (option_map (agrees_with (status_number (status_of said)) (answer_line (case_layout case.command) names said))) is)))
 run_decides found case names said (Err error) is answer decided = decided
 
 module _ (count : ℕ) (cases : List CaseData) (failed : List ℕ) (are : AreFailed count cases failed) where

@@ -21,8 +21,11 @@ use Rattle.tn_run.specs.declared.command.Command.{Command}
 use Rattle.tn_run.specs.Answer.{document_limit}
 use Rattle.tn_run.specs.Complete.{NoneCounted}
 use Rattle.tn_run.specs.Headline.{is_headlined}
-use Rattle.tn_run.specs.Lined.{AnswersFirst, AnswersLines, AreAnswered, Entry, IsLineAnswer, IsLineHeadline, IsLinedRun, IsNextText, StopsAtWrite, has_status, lines_of, lines_status, texts_of}
+use Rattle.tn_run.specs.Lined.{AnswersFirst, AnswersLines, AreAnswered, Entry, IsLineAnswer, IsLineHeadline, IsLinedRun, IsNextText, StopsAtWrite, has_status, lines_of, lines_status, texts_of, with_status}
 use Rattle.tn_run.specs.Run.{IsWritten, IsWrittenWhole, status_of}
+use Rattle.tn_run.specs.Status.{status_number}
+use Rattle.tn_run.specs.declared.status.Status.{Status}
+use Rattle.tn_run.specs.declared.status.Status.TheVariants.{Yes, Fault as HasFault, NoMemory as RanOut, No}
 use Rattle.tn_run.specs.Words.{need_of}
 use Rattle.tn_run.proofs.HeadlineLemmas.{kept_or_shown}
 
@@ -58,18 +61,16 @@ or_false : (b : Bool) → (b || false) ≡ b
 or_false true = refl
 or_false false = refl
 
-has_more : (status : ℕ) (entries : List Entry) (entry : Entry)
-    → has_status status (entries ++ entry ∷ []) ≡ (has_status status entries || (status_of entry.said == status))
+has_more : (status : Status) (entries : List Entry) (entry : Entry)
+    → has_status status (entries ++ entry ∷ [])
+    ≡ (has_status status entries || (status_number (status_of entry.said) == status_number status))
 has_more status entries entry =
-    list_any-append (λ (e : Entry). status_of e.said == status) entries (entry ∷ [])
-    ∙ ap (λ (b : Bool). has_status status entries || b) (or_false (status_of entry.said == status))
+    list_any-append (λ (e : Entry). status_number (status_of e.said) == status_number status) entries (entry ∷ [])
+    ∙ ap (λ (b : Bool). has_status status entries || b)
+    (or_false (status_number (status_of entry.said) == status_number status))
 
 abbrev status_for : Bool → Bool → ℕ
 status_for ran_out fault = if ran_out then 5 else if fault then 1 else 0
-
-abbrev pub with_status : ℕ → ℕ → ℕ
-with_status status answer = if (status == 5) || (answer == 5) then 5 else if (status == 1) || (answer == 1) then 1
-    else 0
 
 status_for_more : (ran_out fault : Bool) (answer : ℕ)
     → with_status (status_for ran_out fault) answer ≡ status_for (ran_out || (answer == 5)) (fault || (answer == 1))
@@ -78,11 +79,12 @@ status_for_more false true answer = refl
 status_for_more false false answer = refl
 
 status_more : (entries : List Entry) (entry : Entry)
-    → with_status (lines_status entries) (status_of entry.said) ≡ lines_status (entries ++ entry ∷ [])
-status_more entries entry = status_for_more (has_status 5 entries) (has_status 1 entries) (status_of entry.said)
-    ∙ ap (λ (b : Bool). status_for b (has_status 1 entries || (status_of entry.said == 1)))
-    (sym (has_more 5 entries entry))
-    ∙ ap (λ (b : Bool). status_for (has_status 5 (entries ++ entry ∷ [])) b) (sym (has_more 1 entries entry))
+    → with_status (lines_status entries) (status_number (status_of entry.said)) ≡ lines_status (entries ++ entry ∷ [])
+status_more entries entry =
+    status_for_more (has_status RanOut entries) (has_status HasFault entries) (status_number (status_of entry.said))
+    ∙ ap (λ (b : Bool). status_for b (has_status HasFault entries || (status_number (status_of entry.said) == 1)))
+    (sym (has_more RanOut entries entry))
+    ∙ ap (λ (b : Bool). status_for (has_status RanOut (entries ++ entry ∷ [])) b) (sym (has_more HasFault entries entry))
 
 -- ---- the lines so far
 
@@ -142,7 +144,7 @@ module _ (command : Command) (told left after : Option (List ℕ)) (names : Name
 
   pub one_more : (old middle new : Option (List ℕ)) (turns before status : ℕ)
       → SoFar command told left old middle turns before → NextAnswer command left after names said
-      → Grows middle new (answer_line Object names said) → status ≡ with_status before (status_of said)
+      → Grows middle new (answer_line Object names said) → status ≡ with_status before (status_number (status_of said))
       → SoFar command told after old new (turns + 1) status
   one_more old middle new turns before status so_far next grown is = record {
     entries = so_far.entries ++ entry_of next ∷ [];
@@ -150,7 +152,7 @@ module _ (command : Command) (told left after : Option (List ℕ)) (names : Name
     lines = lines_more so_far.entries next so_far.lines;
     written = subst (Grows old new) (sym (texts_more so_far.entries (entry_of next)))
         (Grows-trans old middle new (texts_of so_far.entries) (answer_line Object names said) so_far.written grown);
-    status_is = is ∙ ap (λ (n : ℕ). with_status n (status_of said)) so_far.status_is
+    status_is = is ∙ ap (λ (n : ℕ). with_status n (status_number (status_of said))) so_far.status_is
         ∙ status_more so_far.entries (entry_of next);
     turns_are = length_push so_far.entries (entry_of next) ∙ ap (λ (n : ℕ). n + 1) so_far.turns_are;
   }
@@ -180,10 +182,10 @@ Rose_later first middle last later rose = elim rose [
 ]
 
 abbrev status_if : Bool → ℕ
-status_if holds = if holds then 0 else 6
+status_if holds = status_number (if holds then Yes else No)
 
 -- no answer has the status of a failed write
-never_failed : (said : Said) → status_of said ≡ 4 → ⊥
+never_failed : (said : Said) → status_number (status_of said) ≡ 4 → ⊥
 never_failed Usage is = absurd (omega (arith, is))
 never_failed ReadFault is = absurd (omega (arith, is))
 never_failed NoMemory is = absurd (omega (arith, is))

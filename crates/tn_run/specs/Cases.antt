@@ -10,6 +10,7 @@ use Rattle.tn_said.specs.declared.said.Said.TheVariants.{Usage, NoMemory, Cases}
 use Rattle.tn_names.specs.Names.{NameLists}
 use Rattle.tn_run.specs.Answer.{IsAnswerTo}
 use Rattle.tn_run.specs.Run.{status_of}
+use Rattle.tn_run.specs.Status.{status_number}
 use Rattle.tn_run.specs.Words.{case_command, case_layout, need_of}
 use Rattle.tn_run.specs.declared.command.Command.{Command}
 
@@ -23,7 +24,7 @@ pub record IsAllowed (case : CaseData) (status : ℕ) (text : List ℕ) : Type 0
   pub names : NameLists
   pub said : Said
   pub answer : IsCaseAnswer (case_command case.command) case.document names said
-  pub status_is : status ≡ status_of said
+  pub status_is : status ≡ status_number (status_of said)
   pub text_is : text ≡ answer_line (case_layout case.command) names said
 
 -- some allowed status and text differ from those of the case

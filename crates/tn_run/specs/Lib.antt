@@ -1,4 +1,5 @@
 -- The files of definitions of this crate.
+pub mod Status
 pub mod Words
 pub mod Request
 pub mod Drilled

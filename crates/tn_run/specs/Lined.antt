@@ -1,5 +1,5 @@
 -- What a run comes to that answers its source line by line.
-use Rattle.std.specs.Prelude.{◌≡◌, ℕ, ◌<◌, ◌≤◌, ◌⊎◌, Bool, true, ◌==◌, if◌then◌else◌, List, [], ◌∷◌, ◌++◌, map, flat_map, length, take, All, Option, Some}
+use Rattle.std.specs.Prelude.{◌≡◌, ℕ, ◌<◌, ◌≤◌, ◌⊎◌, Bool, true, ◌==◌, ◌||◌, if◌then◌else◌, List, [], ◌∷◌, ◌++◌, map, flat_map, length, take, All, Option, Some}
 use Rattle.std.specs.List.{list_any}
 use Rattle.tn_said.specs.declared.said.Said.{Said}
 use Rattle.tn_said.specs.declared.said.Said.TheVariants.{ReadFault, NoMemory}
@@ -14,6 +14,9 @@ use Rattle.tn_run.specs.Answer.{document_limit, too_long}
 use Rattle.tn_run.specs.Complete.{IsAnswerToAll}
 use Rattle.tn_run.specs.Headline.{KeepsPromise, ShowsFault, is_headlined}
 use Rattle.tn_run.specs.Run.{status_of}
+use Rattle.tn_run.specs.Status.{status_number}
+use Rattle.tn_run.specs.declared.status.Status.{Status}
+use Rattle.tn_run.specs.declared.status.Status.TheVariants.{Yes, Fault, ReadFailed, WriteFailed, NoMemory as NoMemoryStatus}
 
 -- a line, and what was said of it over some names
 pub record Entry : Type 0 where
@@ -47,13 +50,21 @@ abbrev pub texts_of : List Entry → List ℕ
 texts_of entries = flat_map (λ entry. answer_line Object entry.names entry.said) entries
 
 -- whether an answer has this status
-abbrev pub has_status : ℕ → List Entry → Bool
-has_status status entries = list_any (λ entry. status_of entry.said == status) entries
+abbrev pub has_status : Status → List Entry → Bool
+has_status status entries = list_any (λ entry. status_number (status_of entry.said) == status_number status) entries
 
--- the exit status of a run whose lines were all answered: 5 where memory ran out for some line, else 1 where some line
--- had a fault, else 0
+-- the exit status of a run whose lines were all answered: want of memory goes before a fault, and a fault before all else
 abbrev pub lines_status : List Entry → ℕ
-lines_status entries = if has_status 5 entries then 5 else if has_status 1 entries then 1 else 0
+lines_status entries = if has_status NoMemoryStatus entries then status_number NoMemoryStatus
+    else if has_status Fault entries then status_number Fault else status_number Yes
+
+-- and that after one more answer
+abbrev pub with_status : ℕ → ℕ → ℕ
+with_status status answer =
+    if (status == status_number NoMemoryStatus) || (answer == status_number NoMemoryStatus)
+    then status_number NoMemoryStatus
+    else if (status == status_number Fault) || (answer == status_number Fault) then status_number Fault
+    else status_number Yes
 
 -- all lines of the source were answered, and that alone was written
 pub record AnswersLines (command : Command) (told old new : Option (List ℕ)) (status : ℕ) : Type 0 where
@@ -76,7 +87,7 @@ pub record StopsAtRead (command : Command) (told : Option (List ℕ)) (before af
   pub first : AnswersFirst command told entries
   pub cause : Rose before after
   pub written : Grows old new (texts_of entries ++ answer_line Object no_names ReadFault)
-  pub status_is : status ≡ 3
+  pub status_is : status ≡ status_number ReadFailed
 
 -- the text that comes after those of the entries: the next line's answer, or that a read failed
 abbrev pub IsNextText : Command → Option (List ℕ) → ℕ → ℕ → List Entry → List ℕ → Type 0
@@ -97,7 +108,7 @@ pub record StopsAtWrite (command : Command) (told : Option (List ℕ)) (before a
   pub count : ℕ
   pub within : count ≤ length text
   pub written : Grows old new (texts_of entries ++ take count text)
-  pub status_is : status ≡ 4
+  pub status_is : status ≡ status_number WriteFailed
 
 -- what a run by lines comes to, by what the source told and its counts of faults, and by the same of the sink
 abbrev pub IsLinedRun : Command → Option (List ℕ) → ℕ → ℕ → Option (List ℕ) → Option (List ℕ) → ℕ → ℕ → ℕ → Type 0

@@ -7,44 +7,47 @@ use Rattle.tn_io.specs.Sink.{Grows, GrowsByPrefix}
 use Rattle.tn_names.specs.Names.{NameLists}
 use Rattle.tn_answer.specs.AnswerText.{answer_line}
 use Rattle.tn_answer.specs.declared.layout.Layout.{Layout}
+use Rattle.tn_run.specs.Status.{status_number}
+use Rattle.tn_run.specs.declared.status.Status.{Status}
+use Rattle.tn_run.specs.declared.status.Status.TheVariants.{Yes, Fault as FaultStatus, Usage as UsageStatus, ReadFailed, WriteFailed, NoMemory as NoMemoryStatus, No}
 
 -- the exit status of an answer that was written whole
-abbrev pub status_of : Said → ℕ
-status_of (Equilibrium surplus) = 0
-status_of (Fault fault) = 1
-status_of Usage = 2
-status_of ReadFault = 3
-status_of NoMemory = 5
-status_of (Better firm bundle gain) = 6
-status_of (Impossible firm) = 6
-status_of Accepted = 0
-status_of (ExchangeFails firm x y at) = 6
-status_of (Supported on prices ends) = 0
-status_of (Cycle nodes cost) = 6
-status_of (Solved on prices surplus ends) = 0
-status_of (Drill size start firms surplus) = 0
-status_of (Ranges on ranges ends) = 0
-status_of (Session edits) = 0
-status_of (Drops firm keeps gain over) = 6
-status_of (Completes prices over) = 0
-status_of (Blocks contracts over) = 6
-status_of Valid = 0
-status_of (Invalid reason) = 6
-status_of (Cases count []) = 0
-status_of (Cases count (number ∷ numbers)) = 6
-status_of (PageIs page) = 0
-status_of (Firms content firms surplus) = if content == length firms then 0 else 6
+abbrev pub status_of : Said → Status
+status_of (Equilibrium surplus) = Yes
+status_of (Fault fault) = FaultStatus
+status_of Usage = UsageStatus
+status_of ReadFault = ReadFailed
+status_of NoMemory = NoMemoryStatus
+status_of (Better firm bundle gain) = No
+status_of (Impossible firm) = No
+status_of Accepted = Yes
+status_of (ExchangeFails firm x y at) = No
+status_of (Supported on prices ends) = Yes
+status_of (Cycle nodes cost) = No
+status_of (Solved on prices surplus ends) = Yes
+status_of (Drill size start firms surplus) = Yes
+status_of (Ranges on ranges ends) = Yes
+status_of (Session edits) = Yes
+status_of (Drops firm keeps gain over) = No
+status_of (Completes prices over) = Yes
+status_of (Blocks contracts over) = No
+status_of Valid = Yes
+status_of (Invalid reason) = No
+status_of (Cases count []) = Yes
+status_of (Cases count (number ∷ numbers)) = No
+status_of (PageIs page) = Yes
+status_of (Firms content firms surplus) = if content == length firms then Yes else No
 
 -- the text of the answer in a layout was written whole
 pub record IsWrittenWhole (old new : Option (List ℕ)) (layout : Layout) (names : NameLists) (said : Said)
     (status : ℕ) : Type 0 where
-  pub status_is : status ≡ status_of said
+  pub status_is : status ≡ status_number (status_of said)
   pub grown : Grows old new (answer_line layout names said)
 
 -- a write failed, and a prefix of the text was written
 pub record IsCutShort (old new : Option (List ℕ)) (faults_old faults_new : ℕ) (layout : Layout) (names : NameLists)
     (said : Said) (status : ℕ) : Type 0 where
-  pub status_is : status ≡ 4
+  pub status_is : status ≡ status_number WriteFailed
   pub cause : Rose faults_old faults_new
   pub grown : GrowsByPrefix old new (answer_line layout names said)
 

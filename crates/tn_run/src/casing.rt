@@ -7,6 +7,7 @@ ghost use Rattle.tn_cases.specs.Case.{agrees_with};
 ghost use Rattle.tn_run.specs.Answer.{document_limit};
 ghost use Rattle.tn_run.specs.Cases.{AreFailed, IsCaseAnswer, IsPassed, MayBeCases};
 ghost use Rattle.tn_run.specs.Run.{status_of};
+ghost use Rattle.tn_run.specs.Status.{status_number};
 ghost use Rattle.tn_run.specs.Words.{case_command};
 
 use crate::answer::answer_bytes;
@@ -43,11 +44,11 @@ fn is_told<const N: usize>(
     requires inside { k < N }
     requires within { IsWithinClaims said.now }
     ensures { IfOk result (λ same. Some same
-        ≡ option_map (agrees_with (status_of said.now) (answer_line layout names.now said.now))
+        ≡ option_map (agrees_with (status_number (status_of said.now)) (answer_line layout names.now said.now))
         (slice_get book.now k)) }
 {
     let text = answer_text(alloc, names, said, layout)?;
-    Ok(book.agrees(k, status_of(said), &text))
+    Ok(book.agrees(k, status_of(said).number(), &text))
 }
 
 /// Whether a run of the case at index `k` comes to its status and its text.

@@ -1,26 +1,24 @@
 //! The run that answers its source line by line, each answer as an object.
 
-ghost use Rattle.std.specs.Prelude.{◌≡◌, ◌≤◌, ◌⊎◌, ◌||◌, ◌==◌, ℕ, List, ◌∷◌, [], if◌then◌else◌, IfOk, IfSome, IfNone, OnErr};
+ghost use Rattle.std.specs.Prelude.{◌≡◌, ◌≤◌, ◌⊎◌, ℕ, List, ◌∷◌, [], IfOk, IfSome, IfNone, OnErr};
 ghost use Rattle.std.specs.Io.KnownBytes.{IsAtEnd, prepend_known};
 ghost use Rattle.tn_answer.specs.Kept.{IsWithinClaims};
 ghost use Rattle.tn_file.specs.Document.{reading_of};
 ghost use Rattle.tn_io.specs.Counts.{Rose};
 ghost use Rattle.tn_io.specs.Lines.{TakesLines};
 ghost use Rattle.tn_run.specs.Answer.{IsAnswerTo};
-ghost use Rattle.tn_run.specs.Lined.{IsLineAnswer, IsLinedRun};
+ghost use Rattle.tn_run.specs.Lined.{IsLineAnswer, IsLinedRun, with_status};
 ghost use Rattle.tn_run.specs.Words.{need_of};
 
 use crate::answer::{DOCUMENT_LIMIT, answer_bytes, too_long};
 use crate::command::Command;
+use crate::status::Status;
 use crate::top::{tell, write_line};
 use std::alloc::Global;
 use tn_answer::{Layout, Names, read_fault_text};
 use tn_base::OutOfMemory;
 use tn_io::{LineReader, LineStop, ReadFailed, Sink, Source};
 use tn_said::Said;
-
-/// The exit status where a write failed.
-const WRITE_FAILED: u8 = 4;
 
 /// The answer of a command to the bytes of a line, or that memory ran out; with the names that were read.
 fn answer_line(alloc: Global, command: Command, line: &[u8]) -> (Said, Names)
@@ -61,14 +59,16 @@ fn next_answer<S: Source>(
 
 /// The status of a run after one more answer: want of memory goes before a fault, and a fault before all else.
 fn with_status(status: u8, answer: u8) -> u8
-    ensures { result ≡ (if (status == 5) || (answer == 5) then 5 else if (status == 1) || (answer == 1) then 1 else 0) }
+    ensures { result ≡ with_status status answer }
 {
-    if status == 5 || answer == 5 {
-        5
-    } else if status == 1 || answer == 1 {
-        1
+    let no_memory = Status::NoMemory.number();
+    let fault = Status::Fault.number();
+    if status == no_memory || answer == no_memory {
+        no_memory
+    } else if status == fault || answer == fault {
+        fault
     } else {
-        0
+        Status::Yes.number()
     }
 }
 
@@ -84,7 +84,8 @@ pub(crate) fn run_lines<S: Source, K: Sink>(
         (K.written sink.old) (K.written sink.new) (K.faults sink.old) (K.faults sink.new) result }
 {
     let mut reader = LineReader::new();
-    let mut status = 0;
+    let write_failed = Status::WriteFailed.number();
+    let mut status = Status::Yes.number();
     // No input has as many lines; a loop must be known to end.
     for _turn in 0..u64::MAX {
         match next_answer(alloc, command, &mut reader, source) {
@@ -92,8 +93,8 @@ pub(crate) fn run_lines<S: Source, K: Sink>(
             Ok(Some((said, names))) => {
                 let answer = tell(alloc, &names, said, Layout::Object, sink).into_status();
                 drop(names);
-                if answer == WRITE_FAILED {
-                    return WRITE_FAILED;
+                if answer == write_failed {
+                    return answer;
                 }
                 status = with_status(status, answer);
             }

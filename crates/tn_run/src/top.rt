@@ -12,10 +12,13 @@ ghost use Rattle.tn_run.specs.Headline.{IsHeadline, is_headlined};
 ghost use Rattle.tn_run.specs.Request.{IfDocument, IsWithinBounds, layout_of, request_of};
 ghost use Rattle.tn_run.specs.Run.{IsWritten, status_of};
 ghost use Rattle.tn_run.specs.Saying.{MaySay, has_fixed_text};
+ghost use Rattle.tn_run.specs.Status.{status_number};
+ghost use Rattle.tn_run.specs.declared.status.Status.{Status};
 
 use crate::answer::answer_source;
 use crate::casing::cases;
 use crate::request::{Request, layout_of, request_of};
+use crate::status::Status;
 use std::alloc::Global;
 use tn_answer::{
     Layout, Names, answer_text, no_memory_text, page_text, read_fault_text, usage_text,
@@ -25,10 +28,11 @@ use tn_commands::answer_drill;
 use tn_io::{Sink, Source, SteadySink, SteadySource, WriteFailed, write_all};
 use tn_said::Said;
 
-/// What a run has come to: its exit status, and the answer whose text was written. Where the status is 4 a prefix of
-/// the text was written.
+/// What a run has come to: its exit status, and the answer whose text was written. Where the status is that of a
+/// failed write, a prefix of the text was written.
 #[derive(Drop)]
 pub struct Run {
+    /// The number of a `Status`.
     pub status: u8,
     pub said: Said,
 }
@@ -47,7 +51,7 @@ impl Run {
 }
 
 /// The exit status of an answer that was written whole.
-pub fn status_of(said: &Said) -> u8
+pub fn status_of(said: &Said) -> Status
     ensures { result ≡ status_of said.now }
 {
     match said {
@@ -60,24 +64,30 @@ pub fn status_of(said: &Said) -> u8
         | Said::Session { .. }
         | Said::Completes { .. }
         | Said::Valid
-        | Said::Page(_) => 0,
-        Said::Fault(_) => 1,
-        Said::Usage => 2,
-        Said::ReadFault => 3,
-        Said::NoMemory => 5,
+        | Said::Page(_) => Status::Yes,
+        Said::Fault(_) => Status::Fault,
+        Said::Usage => Status::Usage,
+        Said::ReadFault => Status::ReadFailed,
+        Said::NoMemory => Status::NoMemory,
         Said::Better { .. }
         | Said::Impossible { .. }
         | Said::ExchangeFails { .. }
         | Said::Cycle { .. }
         | Said::Drops { .. }
         | Said::Blocks { .. }
-        | Said::Invalid(_) => 6,
-        Said::Cases { failed, .. } => { if failed.len() == 0 { 0 } else { 6 } }
+        | Said::Invalid(_) => Status::No,
+        Said::Cases { failed, .. } => {
+            if failed.len() == 0 {
+                Status::Yes
+            } else {
+                Status::No
+            }
+        }
         Said::Firms { content, firms, .. } => {
             if *content as usize == firms.len() {
-                0
+                Status::Yes
             } else {
-                6
+                Status::No
             }
         }
     }
@@ -93,10 +103,13 @@ pub(crate) fn write_line<K: Sink>(sink: &mut K, line: &[u8], said: Said) -> Run
 {
     match write_all(sink, line) {
         Ok(()) => Run {
-            status: status_of(&said),
+            status: status_of(&said).number(),
             said,
         },
-        Err(WriteFailed) => Run { status: 4, said },
+        Err(WriteFailed) => Run {
+            status: Status::WriteFailed.number(),
+            said,
+        },
     }
 }
 
@@ -228,8 +241,8 @@ pub fn run_steadily(
         × AnswersAll (request_of (map string_bytes words.now)) source.old.unread sink.old.told sink.new.told names
         result.said result.status }
     ensures within { IsWithinClaims result.said }
-    ensures read { result.status ≢ 3 }
-    ensures written { result.status ≢ 4 }
+    ensures read { result.status ≢ status_number Status.ReadFailed }
+    ensures written { result.status ≢ status_number Status.WriteFailed }
 {
     run_market(alloc, words, source, sink)
 }

@@ -2,11 +2,13 @@
 use Rattle.std.proofs.Common.{ap, arith, ◌∙◌, inl, sym}
 use Rattle.tn_answer.specs.declared.layout.Layout.TheVariants.{Object}
 use Rattle.tn_names.specs.Names.{no_names}
-use Rattle.tn_run.proofs.LinedLemmas.{Rose_later, all_turns, may_run_out, one_more, read_failed, whole_answer, with_status, write_failed}
+use Rattle.tn_run.specs.Lined.{with_status}
+use Rattle.tn_run.proofs.LinedLemmas.{Rose_later, all_turns, may_run_out, one_more, read_failed, whole_answer, write_failed}
 use Rattle.tn_run.proofs.lines.run_lines.Goals as goal
 
-pub returns-then-answer-eq-WRITE_FAILED : goal.returns-then-answer-eq-WRITE_FAILED
-returns-then-answer-eq-WRITE_FAILED g c = write_failed c.args.command _ _ _ _ _ _ _ _ _
+pub returns-then-answer-write_failed : goal.returns-then-answer-write_failed
+returns-then-answer-write_failed g c = rw (c.if-answer-write_failed.true ∙ c.number-write_failed.ensures)
+    (write_failed c.args.command _ _ _ _ _ _ _ _ _
     (record {
       source_first = g.S.Source.faults c.args.source.now;
       source_last = g.S.Source.faults c.next_answer.new.source;
@@ -18,7 +20,7 @@ returns-then-answer-eq-WRITE_FAILED g c = write_failed c.args.command _ _ _ _ _ 
     (may_run_out c.args.command _ _ c.in-Ok-Some.names c.in-Ok-Some.said c.tell.result.said
     (rw c.in-Ok-Some.field-0-is at c.in-Ok-Some.ensures.answer) c.tell.ensures.said)
     c.loop-turn.invariant.sink_later c.tell.ensures.written
-    (sym c.into_status-answer.ensures ∙ c.if-answer-eq-WRITE_FAILED.true)
+    (sym c.into_status-answer.ensures ∙ c.if-answer-write_failed.true ∙ c.number-write_failed.ensures))
 
 pub returns-in-Err : goal.returns-in-Err
 returns-in-Err g c = read_failed c.args.command _ _ _ _ _ _ _ _
@@ -36,7 +38,8 @@ returns-in-Err g c = read_failed c.args.command _ _ _ _ _ _ _ _
 pub loop-turn-preserved : goal.loop-turn-preserved
 loop-turn-preserved g c =
     let whole = whole_answer _ _ _ _ c.in-Ok-Some.names c.tell.result.said c.tell.result.status
-    c.tell.ensures.written (rw c.into_status-answer.ensures at c.if-answer-eq-WRITE_FAILED.false) in
+    c.tell.ensures.written (λ is.
+    c.if-answer-write_failed.false (c.into_status-answer.ensures ∙ is ∙ sym c.number-write_failed.ensures)) in
     record {
       so_far = one_more c.args.command _ _ _ c.in-Ok-Some.names c.tell.result.said _ _ _ _ _ _
           c.loop-turn.invariant.so_far
