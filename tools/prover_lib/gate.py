@@ -39,7 +39,7 @@ def try_again(crate: Crate) -> tuple[Crate, list[str], float]:
     begun = time.monotonic()
     try:
         if not is_ready(crate):
-            make_ready(crate, False)
+            make_ready(crate)
         lost = tried_anew(crate, read_record(crate))
     except Trouble as trouble:
         lost = [str(trouble)]

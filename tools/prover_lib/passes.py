@@ -8,7 +8,7 @@ from .crates import Crate
 from .edits import BUNDLE, Edit, Trouble, edits_of_bodies, edits_of_definitions, functions_of, text_of_bundle
 from .messages import Refusal
 from .record import Record, Tried, read_record, sources_of, write_record
-from .trial import KEPT, linked, try_alone, try_pass
+from .trial import KEPT, linked, prove, try_alone, try_pass
 
 
 def chosen(crate: Crate, edits: list[Edit], number: int, kept: dict[str, Tried]) -> list[Edit]:
@@ -38,8 +38,12 @@ def try_bodies(crate: Crate, kept: dict[str, Tried], words: list[str]) -> dict[s
     return tried
 
 
-def try_definitions(crate: Crate, room: pathlib.Path, kept: pathlib.Path) -> dict[str, Tried]:
-    found = {edit.name: try_alone(crate, edit, kept, room / edit.name) for edit in edits_of_definitions(crate)}
+def try_definitions(crate: Crate, room: pathlib.Path) -> dict[str, Tried]:
+    """Tries the edits of definitions, each alone over a proof of the crate as it stands, and tells where each was refused."""
+    edits, kept = edits_of_definitions(crate), room / "kept"
+    if edits:
+        prove(crate, kept)
+    found = {edit.name: try_alone(crate, edit, kept, room / edit.name) for edit in edits}
     return {name: Tried(it.place, it.goals[0], 0) for name, it in found.items() if it}
 
 
@@ -83,7 +87,7 @@ def make_record(crate: Crate, is_anew: bool) -> Record:
         seed = crate.folder / KEPT
         if seed.is_dir() and not is_anew:
             linked(seed, room / "bodies")
-        tried = try_bodies(crate, before.edits, ["--incremental", str(room / "bodies")]) | try_definitions(crate, room, seed)
+        tried = try_bodies(crate, before.edits, ["--incremental", str(room / "bodies")]) | try_definitions(crate, room)
     lost = [it.name for it in [*edits_of_bodies(crate), *edits_of_definitions(crate)] if it.name not in tried]
     record = Record("" if lost else sources, tried)
     write_bundle(crate, record)

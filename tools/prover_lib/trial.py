@@ -31,13 +31,20 @@ def is_ready(crate: Crate) -> bool:
     return all(it.built.is_dir() and not (it.built.parent / "stamp").exists() for it in below)
 
 
-def make_ready(crate: Crate, is_whole: bool) -> None:
-    """Has rt build the libraries below a crate, where they aren't built of these sources, and prove all of it where it's to be
-    whole."""
-    words = [kit() / "bin/rt", "check", *([] if is_whole else ["--only", ""])]
-    ran = subprocess.run([str(it) for it in words], cwd=crate.folder, stdout=subprocess.PIPE, stderr=subprocess.STDOUT, text=True)
+def make_ready(crate: Crate) -> None:
+    """Has rt build the libraries below a crate, where they aren't built of these sources."""
+    words = [str(kit() / "bin/rt"), "check", "--only", ""]
+    ran = subprocess.run(words, cwd=crate.folder, stdout=subprocess.PIPE, stderr=subprocess.STDOUT, text=True)
     if ran.returncode:
-        raise Trouble(f"{crate.name}: {' '.join(map(str, words))}: {ran.stdout[-2000:]}")
+        raise Trouble(f"{crate.name}: {' '.join(words)}: {ran.stdout[-2000:]}")
+
+
+def prove(crate: Crate, kept: pathlib.Path) -> None:
+    """Proves a crate as it stands, and keeps in a folder what came of it."""
+    ran = subprocess.run([*words_of(crate), "--incremental", str(kept)], cwd=crate.folder, stdin=subprocess.DEVNULL,
+                         stdout=subprocess.PIPE, stderr=subprocess.STDOUT, text=True, errors="replace")
+    if ran.returncode:
+        raise Trouble(f"{crate.name}: it isn't proved as it stands\n{ran.stdout[-2000:]}")
 
 
 def check(crate: Crate, edits: list[Edit], words: list[str]) -> str:
