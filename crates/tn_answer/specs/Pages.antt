@@ -21,7 +21,7 @@ help_lines =
     ∷ codes "             market solve --csv < examples/used-cars.json"
     ∷ codes "  range      How low and how high may each price be in an equilibrium?"
     ∷ codes "             market range < examples/used-cars.json"
-    ∷ codes "  session    Which equilibria follow as trades are admitted and barred?"
+    ∷ codes "  session    Which equilibria follow as trades and firms come and go?"
     ∷ codes "             market session < examples/used-cars-edits.json"
     ∷ codes "  judge      Would firms drop contracts of the outcome, or sign others?"
     ∷ codes "             market judge < examples/used-cars-signed.json"

@@ -72,11 +72,11 @@ topic_lines Range =
     ∷ codes "  Status   0 here they are: there always are some"
     ∷ status_lines
 topic_lines Session =
-    codes "market session: Which equilibria follow as trades are admitted and barred?"
+    codes "market session: Which equilibria follow as trades and firms come and go?"
     ∷ []
     ∷ codes "  Reads    a document with edits: trades that are admitted or barred, firms that leave or join"
     ∷ codes "  Example  market session < examples/used-cars-edits.json"
-    ∷ codes "  Answers  session: after each edit an equilibrium of the trades that are then admitted"
+    ∷ codes "  Answers  session: after each edit an equilibrium of the trades that can then be used"
     ∷ codes "  Words    --lines: each line is a document"
     ∷ codes "  Status   0 here they are: there always are some"
     ∷ status_lines

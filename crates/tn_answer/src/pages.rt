@@ -28,7 +28,7 @@ fn help_text() -> &'static str
         "             market solve --csv < examples/used-cars.json\n",
         "  range      How low and how high may each price be in an equilibrium?\n",
         "             market range < examples/used-cars.json\n",
-        "  session    Which equilibria follow as trades are admitted and barred?\n",
+        "  session    Which equilibria follow as trades and firms come and go?\n",
         "             market session < examples/used-cars-edits.json\n",
         "  judge      Would firms drop contracts of the outcome, or sign others?\n",
         "             market judge < examples/used-cars-signed.json\n",

@@ -112,11 +112,11 @@ fn session_text() -> &'static str
     ensures { result.now ≡ lines_text (topic_lines Topic.Session) }
 {
     page!(
-        "market session: Which equilibria follow as trades are admitted and barred?",
+        "market session: Which equilibria follow as trades and firms come and go?",
         "",
         "  Reads    a document with edits: trades that are admitted or barred, firms that leave or join",
         "  Example  market session < examples/used-cars-edits.json",
-        "  Answers  session: after each edit an equilibrium of the trades that are then admitted",
+        "  Answers  session: after each edit an equilibrium of the trades that can then be used",
         "  Words    --lines: each line is a document",
         "  Status   0 here they are: there always are some",
     )
