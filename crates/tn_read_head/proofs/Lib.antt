@@ -4,3 +4,4 @@ pub mod NameLeads
 pub mod ListingLeads
 pub mod NameStops
 pub mod ListingStops
+pub mod CountLemmas

@@ -3,3 +3,4 @@ pub mod Beside
 pub mod Refused
 pub mod Naming
 pub mod Listing
+pub mod Counts

@@ -1,6 +1,7 @@
 //! Reads the head of a document: the limits of its version, names, and the ends of its trades.
 #![tactic(auto)]
 
+mod counts;
 mod listing;
 mod names;
 mod refusal;

@@ -6,14 +6,16 @@ ghost use Rattle.tn_model.specs.Limits.{most_trades};
 ghost use Rattle.tn_read_shapes.specs.Reading.{Gives, each};
 ghost use Rattle.tn_read_references.specs.Ordered.{AreInOrder, ComesNext};
 ghost use Rattle.tn_read_head.specs.Beside.{GivesBeside};
+ghost use Rattle.tn_read_head.specs.Counts.{AreOwnCounts};
 ghost use Rattle.tn_read_head.specs.Naming.{ends_at, one_trade};
 
+use crate::counts::OwnCounts;
 use crate::names::read_trade_name;
 use serde_json::Value;
 use std::alloc::Global;
 use tn_model::Ends;
 use tn_names::Names;
-use tn_read_references::{count_own, firm};
+use tn_read_references::firm;
 use tn_read_shapes::{ReadError, member, require};
 use tn_said::PlaceStep::Key;
 use tn_said::{FaultKind, PlaceStep, Word};
@@ -35,21 +37,25 @@ pub(crate) fn read_trades(
     ensures firms { OnOk result (names.new.firms ≡ names.old.firms) }
 {
     let mut ends = Vec::new(alloc);
+    let mut counts = OwnCounts::none(alloc, names.firms())?;
     for trade in trades {
-        let next = read_trade(alloc, names, &ends, trade)?;
+        let next = read_trade(alloc, names, &ends, &counts, trade)?;
+        counts.count(next);
         ends.push(next)?;
     }
     Ok(ends)
 }
 
-/// Puts the name of one more trade to the names, and reads its ends.
+/// Puts the name of one more trade to the names, and reads its ends. The own trades of each firm before it are counted.
 #[tactic(auto, unfolding(crate::specs::Naming::one_trade))]
 fn read_trade(
     alloc: Global,
     names: &mut Names,
     before: &[Ends],
+    counts: &OwnCounts,
     trade: &Value,
 ) -> Result<Ends, ReadError>
+    requires counts { AreOwnCounts (length names.old.firms) before.now counts.now }
     requires count { length names.old.trades ≡ length before.now }
     requires few { length before.now < most_trades }
     ensures gives { GivesBeside names.new
@@ -60,7 +66,7 @@ fn read_trade(
     ensures firms { OnOk result (names.new.firms ≡ names.old.firms) }
 {
     read_trade_name(alloc, names, trade)?;
-    read_ends(alloc, names, before, trade)
+    read_ends(alloc, names, before, counts, trade)
 }
 
 #[tactic(auto, unfolding(crate::specs::Naming::ends_at))]
@@ -68,9 +74,11 @@ fn read_ends(
     alloc: Global,
     names: &Names,
     before: &[Ends],
+    counts: &OwnCounts,
     trade: &Value,
 ) -> Result<Ends, ReadError>
-    requires { length before.now < most_trades }
+    requires counts { AreOwnCounts (length names.now.firms) before.now counts.now }
+    requires few { length before.now < most_trades }
     ensures gives { Gives (λ ends. ends) result
         (ends_at names.now.firms before.now (length before.now) (view trade.now)) }
     ensures next { IfOk result (ComesNext (length names.now.firms) before.now) }
@@ -97,7 +105,7 @@ fn read_ends(
     Ok(Ends {
         seller,
         buyer,
-        at_seller: count_own(before, seller),
-        at_buyer: count_own(before, buyer),
+        at_seller: counts.of(seller),
+        at_buyer: counts.of(buyer),
     })
 }
