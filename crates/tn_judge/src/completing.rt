@@ -1,6 +1,6 @@
 //! Prices that complete an outcome.
 
-ghost use Rattle.std.specs.Prelude.{◌≡◌, ℕ, ◌+◌, ◌≤◌, ◌<◌, ◌-ℤ◌, if◌then◌else◌, true, length, IfOk};
+ghost use Rattle.std.specs.Prelude.{◌≡◌, ℕ, ◌+◌, ◌≤◌, ◌<◌, ◌-ℤ◌, if◌then◌else◌, true, length, map, IfOk};
 ghost use Rattle.tn_base.specs.Arcs.{IsAtMost};
 ghost use Rattle.tn_chain.specs.Limits.{most_judged_trades};
 ghost use Rattle.tn_cycle.specs.Answers.{label_in};
@@ -8,7 +8,7 @@ ghost use Rattle.tn_graph.specs.Reading.{IsExchangeGraph};
 ghost use Rattle.tn_judge.specs.Completion.{AnswersCompletion, ArePricesTo};
 ghost use Rattle.tn_judge.specs.Fixing.{ArePriced};
 ghost use Rattle.tn_judge.specs.Limits.{most_fixed_label};
-ghost use Rattle.tn_market.specs.Graph.{ArePossible};
+ghost use Rattle.tn_market.specs.Graph.{ArePossible, graph_worths};
 ghost use Rattle.tn_market.specs.Limits.{IsOutcomeOf, IsWithinLimits};
 ghost use Rattle.tn_market.specs.Signed.{is_signed, signed, signed_price};
 ghost use Rattle.tn_market.specs.NetworkOf.{network_of};
@@ -126,7 +126,9 @@ pub fn completion<V: Oracle>(
     requires limits { IsWithinLimits V.firm V.limit market.now }
     requires few { length market.now.trades ≤ most_judged_trades }
     requires outcome { IsOutcomeOf market.now.trades outcome.now.over outcome.now.contracts }
-    ensures { IfOk result (network_of V.firm market.now AnswersCompletion outcome.now.over outcome.now.contracts) }
+    ensures answer { IfOk result (network_of V.firm market.now AnswersCompletion outcome.now.over
+        outcome.now.contracts) }
+    ensures asked { steps.new ≤ steps.old + length market.now.firms + graph_worths (map V.firm market.now.firms) }
 {
     let trades = market.trades();
     let signed: TradeSet<16> = signed_trades(&outcome.contracts, trades);

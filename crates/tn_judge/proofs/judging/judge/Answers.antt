@@ -12,7 +12,7 @@ returns-in-Some g c =
     let trades = c.args.market.now.trades in
     let contracts = c.args.outcome.now.contracts in
     let answer =
-    subst (AnswersCompletion firms trades c.args.outcome.now.over contracts) c.in-Some.is c.in_ok-prices.ensures in (
+    subst (AnswersCompletion firms trades c.args.outcome.now.over contracts) c.in-Some.is c.in_ok-prices.ensures.answer in (
       completed_is_rational firms trades c.args.outcome.now.over contracts (price_at c.in-Some.prices)
           c.trades-trades.ensures.network
           (outcome_feasible trades c.args.outcome.now.over contracts c.requires.outcome) answer.completes,
