@@ -10,7 +10,7 @@ use Rattle.std.proofs.lemmas.List.{get_or-take, drop-drop, drop-take, take_all}
 use Rattle.std.proofs.lemmas.List.Elements.{All-append, All-from_get_or}
 use Rattle.std.proofs.lemmas.List.Sums.{split_at_first, fails_before_first, passes_at_first}
 use Rattle.std.specs.Io.KnownBytes.{Consumes, prepend_known}
-use Rattle.tn_io.specs.Lines.{AreNextLines, IsNextLine, IsUnbroken, PassesOver, TakesLines, most_turns}
+use Rattle.tn_io.specs.Lines.{AreNextLines, IsNextLine, IsUnbroken, PassesOver, TakesLines, TakesPart, most_turns}
 
 -- the first bytes of what is read ahead are let go
 pub skip_range : (piece : List ℕ) (from to count : ℕ) → count ≤ length (slice_range piece from to)
@@ -224,6 +224,28 @@ passed_ended a b left bytes turns passed filled within =
           (part-unbroken bytes, inl (Consumes-ended left bytes within)),
     )
 
+-- ---- a read that fails
+
+prepend_nil : (known : Option (List ℕ)) → prepend_known [] known ≡ known
+prepend_nil None = refl
+prepend_nil (Some xs) = refl
+
+-- bytes are taken, and then nothing is read ahead
+pub taken_off : (a b left : Option (List ℕ)) (line ahead : List ℕ) → Consumes a b line
+    → Consumes b (prepend_known ahead left) [] → ahead ≡ [] → Consumes a left line
+taken_off a b left line ahead taken filled none =
+    let all : Consumes a (prepend_known ahead left) line =
+    subst (Consumes a (prepend_known ahead left)) (append-nil line)
+    (Consumes-trans a b (prepend_known ahead left) line [] taken filled) in
+    subst (λ (known : Option (List ℕ)). Consumes a known line)
+    (ap (λ (bytes : List ℕ). prepend_known bytes left) none ∙ prepend_nil left) all
+
+-- the part of a line that was taken before
+pub failed_part : (a b left : Option (List ℕ)) (line ahead : List ℕ) → IsUnbroken line → Consumes a b line
+    → Consumes b (prepend_known ahead left) [] → ahead ≡ [] → TakesPart a left
+failed_part a b left line ahead plain taken filled none =
+    (line, plain, taken_off a b left line ahead taken filled none)
+
 -- ---- one more part of a line
 
 -- the part that a line feed ends
@@ -265,6 +287,15 @@ pub part_plain : (line bytes : List ℕ) → IsUnbroken line → IsUnbroken (lin
 part_plain line bytes plain =
     All-append (λ (byte : ℕ). byte ≢ 10) line (take (before_feed bytes) bytes) plain (part-unbroken bytes)
 
+-- the bytes of a line so far, and the part that didn't go there
+front_taken : (a b left : Option (List ℕ)) (line bytes : List ℕ) → Consumes a b line
+    → Consumes b (prepend_known bytes left) []
+    → Consumes a (prepend_known (drop (before_feed bytes) bytes) left) (line ++ take (before_feed bytes) bytes)
+front_taken a b left line bytes taken filled =
+    Consumes-trans a b (prepend_known (drop (before_feed bytes) bytes) left) line (take (before_feed bytes) bytes) taken
+    (Consumes-trans b (prepend_known bytes left) (prepend_known (drop (before_feed bytes) bytes) left) []
+    (take (before_feed bytes) bytes) filled (Consumes-front left bytes (before_feed bytes)))
+
 -- a line that is not given: its bytes so far, the part that didn't go there, and what was passed over
 pub line_stopped : (a b c left : Option (List ℕ)) (line bytes : List ℕ) → IsUnbroken line → Consumes a b line
     → Consumes b (prepend_known bytes left) []
@@ -272,11 +303,7 @@ pub line_stopped : (a b c left : Option (List ℕ)) (line bytes : List ℕ) → 
     × PassesOver (prepend_known (drop (before_feed bytes) bytes) left) c passed
     → (whole : List ℕ) × (length line + before_feed bytes ≤ length whole) × TakesLines a c (whole ∷ [])
 line_stopped a b c left line bytes plain taken filled some passed =
-    let front : Consumes a (prepend_known (drop (before_feed bytes) bytes) left) (line
-    ++ take (before_feed bytes) bytes) =
-    Consumes-trans a b (prepend_known (drop (before_feed bytes) bytes) left) line (take (before_feed bytes) bytes) taken
-    (Consumes-trans b (prepend_known bytes left) (prepend_known (drop (before_feed bytes) bytes) left) []
-    (take (before_feed bytes) bytes) filled (Consumes-front left bytes (before_feed bytes))) in
+    let front = front_taken a b left line bytes taken filled in
     let whole : List ℕ = (line ++ take (before_feed bytes) bytes) ++ passed.0 in
     let long : length line + before_feed bytes ≤ length ((line ++ take (before_feed bytes) bytes) ++ passed.0) =
     omega (
@@ -291,4 +318,17 @@ line_stopped a b c left line bytes plain taken filled some passed =
       Passes-TakesLines a c ((line ++ take (before_feed bytes) bytes) ++ passed.0) (omega (arith, some, long))
           (Passes-after a (prepend_known (drop (before_feed bytes) bytes) left) c (line
           ++ take (before_feed bytes) bytes) passed.0 (part_plain line bytes plain) front passed.1),
+    )
+
+-- a line whose rest wasn't read: its bytes so far, the part that didn't go there, and what was passed over
+pub part_stopped : (a b c left : Option (List ℕ)) (line bytes : List ℕ) → IsUnbroken line → Consumes a b line
+    → Consumes b (prepend_known bytes left) [] → TakesPart (prepend_known (drop (before_feed bytes) bytes) left) c
+    → TakesPart a c
+part_stopped a b c left line bytes plain taken filled part =
+    let front = front_taken a b left line bytes taken filled in (
+      (line ++ take (before_feed bytes) bytes) ++ part.0,
+      All-append (λ (byte : ℕ). byte ≢ 10) (line ++ take (before_feed bytes) bytes) part.0
+          (part_plain line bytes plain) part.1,
+      Consumes-trans a (prepend_known (drop (before_feed bytes) bytes) left) c (line ++ take (before_feed bytes) bytes)
+          part.0 front part.2,
     )

@@ -26,6 +26,10 @@ TakesLines None new lines = ⊤
 TakesLines (Some all) None lines = ⊥
 TakesLines (Some all) (Some rest) lines = length all < most_turns → AreNextLines all lines rest
 
+-- the known bytes lose a part of a line at their front, in which no line feed stands, and nothing else
+abbrev pub TakesPart : Option (List ℕ) → Option (List ℕ) → Type 0
+TakesPart old new = (part : List ℕ) × IsUnbroken part × Consumes old new part
+
 -- the known bytes lose the rest of a line, and the line feed that ends it; or they end there; or a loop took its last
 -- turn
 abbrev pub PassesOver : Option (List ℕ) → Option (List ℕ) → List ℕ → Type 0

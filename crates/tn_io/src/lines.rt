@@ -3,7 +3,7 @@ ghost use Rattle.std.specs.Prelude.{ℕ, ◌≡◌, ◌≢◌, ◌==◌, ◌<◌
 ghost use Rattle.std.specs.Io.KnownBytes.{Consumes, IsAtEnd, prepend_known};
 ghost use Rattle.std.specs.List.{position_or_len};
 ghost use Rattle.tn_io.specs.Counts.{Rose};
-ghost use Rattle.tn_io.specs.Lines.{PassesOver, TakesLines};
+ghost use Rattle.tn_io.specs.Lines.{PassesOver, TakesLines, TakesPart};
 ghost use Rattle.tn_io.specs.declared.lines.LineStop.{LineStop};
 ghost use Rattle.tn_io.specs.declared.lines.LineStop.TheVariants.{Failed, TooLong, OutOfMemory};
 
@@ -15,7 +15,7 @@ use thiserror::Error;
 /// Why a line wasn't given.
 #[derive(Clone, Copy, Debug, PartialEq, Eq, Error)]
 pub enum LineStop {
-    /// A read failed. What was read of the line is lost.
+    /// A read failed. What was read of the line is lost, and nothing else.
     #[error("reading failed")]
     Failed,
     /// The line has more bytes than the limit allows. It was passed over.
@@ -100,11 +100,13 @@ impl LineReader {
         self.from += count;
     }
 
-    /// Reads a piece, unless some bytes are read ahead. Whether some are then: none are only at the end of input.
+    /// Reads a piece, unless some bytes are read ahead. Whether some are then: none are only at the end of input. No
+    /// byte is lost, whatever comes of the read; after one that failed nothing is read ahead.
     fn fill<S: Source>(&mut self, source: &mut S) -> Result<bool, ReadFailed>
         ensures some { IfOk result (λ some. some ≡ true → 0 < length self.new) }
-        ensures kept { OnOk result (Consumes
-            (prepend_known self.old (S.left source.old)) (prepend_known self.new (S.left source.new)) []) }
+        ensures kept { Consumes
+            (prepend_known self.old (S.left source.old)) (prepend_known self.new (S.left source.new)) [] }
+        ensures none { result ≢ Ok true → self.new ≡ [] }
         ensures end { IfOk result (λ some. some ≡ false
             → IsAtEnd (prepend_known self.new (S.left source.new))) }
         ensures failed { OnErr result (Rose (S.faults source.old) (S.faults source.new)) }
@@ -122,6 +124,8 @@ impl LineReader {
     fn pass_over<S: Source>(&mut self, source: &mut S) -> Result<(), ReadFailed>
         ensures passed { OnOk result ((line : List ℕ) × PassesOver
             (prepend_known self.old (S.left source.old)) (prepend_known self.new (S.left source.new)) line) }
+        ensures part { OnErr result ((self.new ≡ [])
+            × TakesPart (prepend_known self.old (S.left source.old)) (S.left source.new)) }
         ensures failed { OnErr result (Rose (S.faults source.old) (S.faults source.new)) }
         ensures later { S.faults source.old ≤ S.faults source.new }
     {
@@ -190,6 +194,8 @@ impl LineReader {
             (line.items ∷ []))) }
         ensures within { IfOk result (λ next. IfSome next (λ line. length line.items ≤ limit)) }
         ensures end { IfOk result (λ next. IfNone next (IsAtEnd (prepend_known self.old (S.left source.old)))) }
+        ensures rest { IfOk result (λ next. IfNone next ((self.new ≡ [])
+            × Consumes (prepend_known self.old (S.left source.old)) (S.left source.new) [])) }
 
         // A line that isn't given is passed over.
         ensures too_long { IsErrOf result LineStop.TooLong → (line : List ℕ) × (limit < length line) × TakesLines
@@ -197,7 +203,10 @@ impl LineReader {
         ensures out_of_memory { IsErrOf result LineStop.OutOfMemory → (line : List ℕ) × TakesLines
             (prepend_known self.old (S.left source.old)) (prepend_known self.new (S.left source.new)) (line ∷ []) }
 
-        // A failure has its cause in the source.
+        // A failure has its cause in the source. What was read of the line is gone, and no byte beside it: the source
+        // has all that comes after that, and nothing is read ahead.
+        ensures part { IsErrOf result LineStop.Failed → (self.new ≡ [])
+            × TakesPart (prepend_known self.old (S.left source.old)) (S.left source.new) }
         ensures failed { IsErrOf result LineStop.Failed → Rose (S.faults source.old) (S.faults source.new) }
         ensures later { S.faults source.old ≤ S.faults source.new }
     {

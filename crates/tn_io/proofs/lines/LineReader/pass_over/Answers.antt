@@ -12,7 +12,7 @@ returns-then-count-ahead-clause-passed g c =
     let moved : c.skip.new.self ≡ drop (before_feed c.fill.new.self + 1) c.fill.new.self =
     c.skip.ensures ∙ ap (λ (n : ℕ). drop (n + 1) c.fill.new.self) count in
     rw moved (passed_ended _ _ (g.S.Source.left c.fill.new.source) c.fill.new.self c.loop-turn._turn
-    c.loop-turn.invariant.passed c.in_ok-fill.ensures.kept within)
+    c.loop-turn.invariant.passed c.fill.ensures.kept within)
 
 pub loop-turn-preserved : goal.loop-turn-preserved
 loop-turn-preserved g c =
@@ -25,6 +25,6 @@ loop-turn-preserved g c =
     c.skip-in-loop-turn.ensures ∙ ap (λ (n : ℕ). drop n c.fill.new.self) count in
     record {
       passed = rw moved (more_passed _ _ (g.S.Source.left c.fill.new.source) c.fill.new.self c.loop-turn._turn
-          c.loop-turn.invariant.passed c.in_ok-fill.ensures.kept some none);
+          c.loop-turn.invariant.passed c.fill.ensures.kept some none);
       later = omega arith;
     }
