@@ -1,6 +1,6 @@
 -- Lines of a source's bytes, from the pieces that are read.
 use Rattle.std.proofs.Common.{◌≡◌, ℕ, ◌+◌, ◌-◌, ◌<◌, ◌≤◌, ◌==◌, Bool, false, true, cond, not, List, [], ◌∷◌, ◌++◌, length, take, drop, get_or, None, Some, refl, sym, ap, subst, ◌∙◌, ◌⊎◌, inl, inr, arith, append_assoc, append-nil, length-append, length-take, take-append-drop}
-use Rattle.std.specs.Prelude.{Option, ◌≢◌, nat_lt, position, slice_range}
+use Rattle.std.specs.Prelude.{⊤, Option, ◌≢◌, nat_lt, position, slice_range}
 use Rattle.std.specs.List.{before_first, after_first, position_or_len}
 use Rattle.std.proofs.KnownBytes.{Consumes-trans}
 use Rattle.std.proofs.lemmas.Bool.{eqb-true, eqb-false, cases_lt, lt-ltb}
@@ -9,7 +9,7 @@ use Rattle.std.proofs.lemmas.List.Folds.{length-prefix_len}
 use Rattle.std.proofs.lemmas.List.{get_or-take, drop-drop, drop-take, take_all}
 use Rattle.std.proofs.lemmas.List.Elements.{All-append, All-from_get_or}
 use Rattle.std.proofs.lemmas.List.Sums.{split_at_first, fails_before_first, passes_at_first}
-use Rattle.std.specs.Io.KnownBytes.{Consumes, prepend_known}
+use Rattle.std.specs.Io.KnownBytes.{Consumes, IsAtEnd, prepend_known}
 use Rattle.tn_io.specs.Lines.{AreNextLines, IsNextLine, IsUnbroken, PassesOver, TakesLines, TakesPart, most_turns}
 
 -- the first bytes of what is read ahead are let go
@@ -155,20 +155,46 @@ TakesLines-trans (Some all) (Some middle) None xs ys p q = absurd q
 TakesLines-trans (Some all) (Some middle) (Some rest) xs ys p q = λ few.
     lines-append all xs ys middle rest (p few) (q (omega (arith, few, lines-shorter all xs middle (p few))))
 
--- the lines are more than few bytes have
-pub TakesLines-most : (a b : Option (List ℕ)) (lines : List (List ℕ)) → TakesLines a b lines → most_turns ≤ length lines
-    → TakesLines a (Some []) lines
-TakesLines-most None b lines p many = tt
-TakesLines-most (Some all) None lines p many = absurd p
-TakesLines-most (Some all) (Some rest) lines p many =
+-- bytes that were told are told still
+abbrev pub GoesOnTelling : Option (List ℕ) → Option (List ℕ) → Type 0
+GoesOnTelling None after = ⊤
+GoesOnTelling (Some bytes) None = ⊥
+GoesOnTelling (Some bytes) (Some more) = ⊤
+
+-- whether a source tells its bytes doesn't hang on what is read ahead
+pub still_known : (ahead : List ℕ) (left : Option (List ℕ)) → GoesOnTelling (prepend_known ahead left) left
+still_known ahead None = tt
+still_known ahead (Some bytes) = tt
+
+pub told_end : (known : Option (List ℕ)) → GoesOnTelling known (Some [])
+told_end None = tt
+told_end (Some bytes) = tt
+
+-- the lines are more than few bytes have, so it is the same what is left
+pub TakesLines-most : (a b c : Option (List ℕ)) (lines : List (List ℕ)) → TakesLines a b lines
+    → most_turns ≤ length lines → GoesOnTelling b c → TakesLines a c lines
+TakesLines-most None b c lines p many tells = tt
+TakesLines-most (Some all) None c lines p many tells = absurd p
+TakesLines-most (Some all) (Some rest) None lines p many tells = absurd tells
+TakesLines-most (Some all) (Some rest) (Some bytes) lines p many tells =
     λ few. absurd (omega (arith, few, many, lines-shorter all lines rest (p few)))
 
--- something is left, whatever it is
-pub TakesLines-rest : (a b : Option (List ℕ)) (lines : List (List ℕ)) → TakesLines a b lines → (rest : List ℕ)
-    × TakesLines a (Some rest) lines
-TakesLines-rest None b lines p = ([], tt)
-TakesLines-rest (Some all) None lines p = absurd p
-TakesLines-rest (Some all) (Some rest) lines p = (rest, p)
+-- nothing is left
+pub TakesLines-end : (a b : Option (List ℕ)) (lines : List (List ℕ)) → TakesLines a b lines → IsAtEnd b
+    → TakesLines a (Some []) lines
+TakesLines-end None b lines p end = tt
+TakesLines-end (Some all) None lines p end = absurd p
+TakesLines-end (Some all) (Some rest) lines p end =
+    λ few. subst (λ (bytes : List ℕ). AreNextLines all lines bytes) end (p few)
+
+-- nothing more is taken
+pub TakesLines-kept : (a b c : Option (List ℕ)) (lines : List (List ℕ)) → TakesLines a b lines → Consumes b c []
+    → TakesLines a c lines
+TakesLines-kept None b c lines p kept = tt
+TakesLines-kept (Some all) None c lines p kept = absurd p
+TakesLines-kept (Some all) (Some rest) None lines p kept = absurd kept
+TakesLines-kept (Some all) (Some rest) (Some bytes) lines p kept =
+    λ few. subst (λ (left : List ℕ). AreNextLines all lines left) kept (p few)
 
 -- ---- what a loop passes over
 

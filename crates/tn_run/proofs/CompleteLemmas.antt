@@ -8,7 +8,7 @@ use Rattle.tn_io.specs.Source.{TakesFirst}
 use Rattle.tn_names.specs.Names.{NameLists}
 use Rattle.tn_file.specs.Document.{reading_of}
 use Rattle.tn_run.specs.declared.command.Command.{Command}
-use Rattle.tn_run.specs.Answer.{document_limit, IsAnswerTo, AnswersBytes, MayBeSaid}
+use Rattle.tn_run.specs.Answer.{document_limit, IsAnswerTo, AnswersBytes, FindsTooLong, MayBeSaid}
 use Rattle.tn_run.specs.declared.request.Request.{Request}
 use Rattle.tn_run.specs.declared.request.Request.TheVariants.{Document}
 use Rattle.tn_run.specs.Complete.{NoneCounted, IsAnswerToAll, SaysOfAll, AnswersAll}
@@ -27,17 +27,23 @@ all_answered : (command : Command) (all : List ℕ) (new : Option (List ℕ)) (n
     → AnswersBytes command (Some all) new names said → IsAnswerToAll command all names said
 all_answered command all new names said answers = elim answers [
   | inl long ↦ record {
-    few = λ few. let more : document_limit + 1 ≤ length all = has_taken all new (document_limit + 1) long.taken in
-        absurd (omega (arith, few, more));
+    few = λ few. absurd (not_few long few);
+    kept = λ few. absurd (not_few long few);
     many = λ many. long.said_is;
   }
   | inr whole ↦ record {
     few = λ few. subst (λ (bytes : List ℕ). IsAnswerTo command (reading_of (need_of command) bytes) names said)
         whole.told whole.answer;
+    kept = λ few. whole.kept;
     many = λ many. let few = subst (λ (bytes : List ℕ). length bytes ≤ document_limit) whole.told whole.few in
         absurd (omega (arith, few, many));
   }
 ]
+  where
+    not_few : FindsTooLong (Some all) new said → length all ≤ document_limit → ⊥
+    not_few long few = let more : document_limit + 1 ≤ length all = has_taken all new (document_limit + 1) long.taken
+        in
+        absurd (omega (arith, few, more))
 
 -- the answer to all bytes, or want of memory, where the source counted no fault
 said_of_all : (command : Command) (all : List ℕ) (new : Option (List ℕ)) (before after : ℕ) (names : NameLists)

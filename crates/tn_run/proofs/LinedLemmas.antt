@@ -1,6 +1,7 @@
 -- A run by lines, from one line after another.
 use Rattle.std.proofs.Common.{◌≡◌, ℕ, ◌+◌, ◌≤◌, ◌==◌, ◌||◌, Bool, true, false, if◌then◌else◌, List, [], ◌∷◌, ◌++◌, length, take, refl, sym, ap, subst, ◌∙◌, ◌⊎◌, inl, inr, arith, append-nil}
 use Rattle.std.specs.Prelude.{Option, None, Some, IfSome}
+use Rattle.std.specs.Io.KnownBytes.{Consumes, IsAtEnd, prepend_known}
 use Rattle.std.proofs.lemmas.Bool.{cases_lt}
 use Rattle.std.proofs.lemmas.List.{map-append, length-map, length_push}
 use Rattle.std.proofs.lemmas.List.Concat.{flat_map-append}
@@ -10,18 +11,19 @@ use Rattle.tn_said.specs.declared.said.Said.{Said}
 use Rattle.tn_said.specs.declared.said.Said.TheVariants.{Usage, ReadFault, NoMemory, Fault, Equilibrium, Better, Impossible, Accepted, ExchangeFails, Supported, Cycle, Solved, Drill, Ranges, Session, Drops, Completes, Blocks, Valid, Invalid, Cases, Page as PageIs, Firms}
 use Rattle.tn_names.specs.Names.{NameLists, no_names}
 use Rattle.tn_answer.specs.AnswerText.{answer_line}
+use Rattle.tn_answer.specs.Kept.{IsWithinClaims}
 use Rattle.tn_answer.specs.declared.layout.Layout.TheVariants.{Object}
 use Rattle.tn_file.specs.Document.{reading_of}
 use Rattle.tn_io.specs.Counts.{Rose}
-use Rattle.tn_io.specs.Lines.{TakesLines, most_turns}
+use Rattle.tn_io.specs.Lines.{TakesLines, TakesPart, most_turns}
 use Rattle.tn_io.specs.Sink.{Grows, GrowsByPrefix}
 use Rattle.tn_io.proofs.Grown.{Grows-trans}
-use Rattle.tn_io.proofs.LineLemmas.{TakesLines-trans, TakesLines-most, TakesLines-rest}
+use Rattle.tn_io.proofs.LineLemmas.{TakesLines-end, TakesLines-kept, TakesLines-most, TakesLines-trans, still_known, told_end}
 use Rattle.tn_run.specs.declared.command.Command.{Command}
 use Rattle.tn_run.specs.Answer.{document_limit}
 use Rattle.tn_run.specs.Complete.{NoneCounted}
 use Rattle.tn_run.specs.Headline.{is_headlined}
-use Rattle.tn_run.specs.Lined.{AnswersFirst, AnswersLines, AreAnswered, Entry, IsLineAnswer, IsLineHeadline, IsLinedRun, IsNextText, StopsAtWrite, has_status, lines_of, lines_status, texts_of, with_status}
+use Rattle.tn_run.specs.Lined.{AnswersLines, AnswersNext, AreAnswered, Entry, FailsBehind, IsLineAnswer, IsLineHeadline, IsLinedRun, IsNextText, StopsAtWrite, has_status, lines_of, lines_status, texts_of, with_status}
 use Rattle.tn_run.specs.Run.{IsWritten, IsWrittenWhole, status_of}
 use Rattle.tn_run.specs.Status.{status_number}
 use Rattle.tn_run.specs.declared.status.Status.{Status}
@@ -42,12 +44,24 @@ line_headline command entry headlined answer = elim answer [
   ]
 ]
 
+-- its numbers are within the limits of claims
+line_within : (command : Command) (entry : Entry) → IsLineAnswer command entry → IsWithinClaims entry.said
+line_within command entry answer = elim answer [
+  | inl none ↦ subst IsWithinClaims (sym none) tt
+  | inr all ↦ elim (cases_lt document_limit (length entry.line)) [
+    | inl many ↦ subst IsWithinClaims (sym (all.many many)) tt
+    | inr few ↦ (all.kept few).within
+  ]
+]
+
 -- ---- one more line
 
 answered_more : (command : Command) (entries : List Entry) (entry : Entry) → AreAnswered command entries
     → IsLineAnswer command entry → AreAnswered command (entries ++ entry ∷ [])
 answered_more command entries entry answered answer = record {
   answers = All-push (IsLineAnswer command) entries entry answered.answers answer;
+  within = All-push (λ (e : Entry). IsWithinClaims e.said) entries entry answered.within
+      (line_within command entry answer);
   headline = λ headlined. All-push (IsLineHeadline command) entries entry (answered.headline headlined)
       (line_headline command entry headlined answer);
 }
@@ -129,18 +143,19 @@ module _ (command : Command) (told left after : Option (List ℕ)) (names : Name
       subst (TakesLines told after) (sym (map-append (λ (e : Entry). e.line) entries (entry_of next ∷ [])))
       (TakesLines-trans told left after (lines_of entries) (next.line ∷ []) lines next.taken)
 
-  first_more : (entries : List Entry) (next : NextAnswer command left after names said) → AreAnswered command entries
-      → TakesLines told left (lines_of entries)
-      → AnswersFirst command told (entries ++ entry_of next ∷ [])
-  first_more entries next answered lines =
-      let rest = TakesLines-rest told after (lines_of (entries ++ entry_of next ∷ [])) (lines_more entries next lines)
-      in
-      record {
-        answered = answered_more command entries (entry_of next) answered next.answer;
-        rest = rest.0;
-        lines =
-            rest.1;
-      }
+  -- the answer to the next line, after which some bytes are read ahead
+  pub next_text : (ahead : List ℕ) (gone : Option (List ℕ)) (entries : List Entry)
+      (next : NextAnswer command left after names said) → after ≡ prepend_known ahead gone
+      → AreAnswered command entries → TakesLines told left (lines_of entries)
+      → AnswersNext command told gone entries (answer_line Object names said)
+  next_text ahead gone entries next is answered lines = record {
+    entry = entry_of next;
+    answered = answered_more command entries (entry_of next) answered next.answer;
+    ahead = ahead;
+    lines = subst (λ (known : Option (List ℕ)). TakesLines told known (lines_of (entries ++ entry_of next ∷ []))) is
+        (lines_more entries next lines);
+    text_is = refl;
+  }
 
   pub one_more : (old middle new : Option (List ℕ)) (turns before status : ℕ)
       → SoFar command told left old middle turns before → NextAnswer command left after names said
@@ -159,19 +174,38 @@ module _ (command : Command) (told left after : Option (List ℕ)) (names : Name
 
 -- ---- the end of the run
 
--- more lines were answered than few bytes have
-pub all_turns : (command : Command) (told left old new : Option (List ℕ)) (turns status : ℕ)
-    → SoFar command told left old new turns status → most_turns ≤ turns
-    → AnswersLines command told old new status
-all_turns command told left old new turns status so_far most = record {
+-- a call that finds the end takes nothing
+pub at_end : (command : Command) (told left gone old new : Option (List ℕ)) (turns status : ℕ)
+    → SoFar command told left old new turns status → IsAtEnd left → Consumes left gone []
+    → AnswersLines command told gone old new status
+at_end command told left gone old new turns status so_far end rest = record {
   entries = so_far.entries;
   answered = so_far.answered;
-  lines = TakesLines-most told left (lines_of so_far.entries) so_far.lines
-      (let many : most_turns ≤ length so_far.entries = omega (arith, so_far.turns_are, most) in
-      subst (λ (n : ℕ). most_turns ≤ n) (sym (length-map so_far.entries (λ (e : Entry). e.line))) many);
+  lines = TakesLines-end told left (lines_of so_far.entries) so_far.lines end;
+  taken = TakesLines-kept told left gone (lines_of so_far.entries) so_far.lines rest;
   written = so_far.written;
   status_is = so_far.status_is;
 }
+
+-- more lines were answered than few bytes have
+pub all_turns : (command : Command) (told left : Option (List ℕ)) (ahead : List ℕ) (old new : Option (List ℕ))
+    (turns status : ℕ)
+    → SoFar command told (prepend_known ahead left) old new turns status → most_turns ≤ turns
+    → AnswersLines command told left old new status
+all_turns command told left ahead old new turns status so_far most =
+    let many : most_turns ≤ length so_far.entries = omega (arith, so_far.turns_are, most) in
+    let many_lines : most_turns ≤ length (lines_of so_far.entries) =
+    subst (λ (n : ℕ). most_turns ≤ n) (sym (length-map so_far.entries (λ (e : Entry). e.line))) many in
+    record {
+      entries = so_far.entries;
+      answered = so_far.answered;
+      lines = TakesLines-most told (prepend_known ahead left) (Some []) (lines_of so_far.entries) so_far.lines many_lines
+          (told_end (prepend_known ahead left));
+      taken = TakesLines-most told (prepend_known ahead left) left (lines_of so_far.entries) so_far.lines many_lines
+          (still_known ahead left);
+      written = so_far.written;
+      status_is = so_far.status_is;
+    }
 
 -- a count that rose after it had not fallen rose
 pub Rose_later : (first middle last : ℕ) → first ≤ middle → Rose middle last → Rose first last
@@ -224,16 +258,18 @@ pub record Faults : Type 0 where
   pub sink_last : ℕ
 
 -- what was written of the text after those of the entries, where a write failed
-cut_text : (command : Command) (told old middle new : Option (List ℕ)) (faults : Faults) (entries : List Entry)
+cut_text : (command : Command) (told left old middle new : Option (List ℕ)) (faults : Faults) (entries : List Entry)
     (text : List ℕ) (status : ℕ)
-    → AnswersFirst command told entries → IsNextText command told faults.source_first faults.source_last entries text
+    → AreAnswered command entries
+    → IsNextText command told left faults.source_first faults.source_last entries text
     → Grows old middle (texts_of entries)
     → faults.sink_first ≤ faults.sink_middle → Rose faults.sink_middle faults.sink_last → GrowsByPrefix middle new text
     → status ≡ 4
-    → StopsAtWrite command told faults.source_first faults.source_last old new faults.sink_first faults.sink_last status
-cut_text command told old middle new faults entries text status first next written later rose cut is = record {
+    → StopsAtWrite command told left faults.source_first faults.source_last old new faults.sink_first faults.sink_last
+    status
+cut_text command told left old middle new faults entries text status answered next written later rose cut is = record {
   entries = entries;
-  first = first;
+  answered = answered;
   text = text;
   next = next;
   cause = Rose_later faults.sink_first faults.sink_middle faults.sink_last later rose;
@@ -243,53 +279,53 @@ cut_text command told old middle new faults entries text status first next writt
   status_is = is;
 }
 
-first_so_far : (command : Command) (told left old new : Option (List ℕ)) (turns status : ℕ)
-    (so_far : SoFar command told left old new turns status) → AnswersFirst command told so_far.entries
-first_so_far command told left old new turns status so_far =
-    let rest = TakesLines-rest told left (lines_of so_far.entries) so_far.lines in
-    record { answered = so_far.answered; rest = rest.0; lines = rest.1 }
+-- a read failed behind the lines so far
+failed_behind : (command : Command) (told left gone old new : Option (List ℕ)) (turns status : ℕ) (faults : Faults)
+    (so_far : SoFar command told left old new turns status) → Rose faults.source_first faults.source_last
+    → TakesPart left gone → FailsBehind told gone faults.source_first faults.source_last so_far.entries
+failed_behind command told left gone old new turns status faults so_far rose part =
+    record { cause = rose; rest = left; lines = so_far.lines; part = part }
 
 -- a read failed, and that was written or cut short
-pub read_failed : (command : Command) (told left old middle new : Option (List ℕ)) (turns before status : ℕ)
+pub read_failed : (command : Command) (told left gone old middle new : Option (List ℕ)) (turns before status : ℕ)
     (faults : Faults) → SoFar command told left old middle turns before
-    → Rose faults.source_first faults.source_last → faults.sink_first ≤ faults.sink_middle
+    → Rose faults.source_first faults.source_last → TakesPart left gone → faults.sink_first ≤ faults.sink_middle
     → IsWritten middle new faults.sink_middle faults.sink_last Object no_names ReadFault status
-    → IsLinedRun command told faults.source_first faults.source_last old new faults.sink_first faults.sink_last status
-read_failed command told left old middle new turns before status faults so_far rose later written =
-    let first = first_so_far command told left old middle turns before so_far in
+    → IsLinedRun command told gone faults.source_first faults.source_last old new faults.sink_first faults.sink_last
+    status
+read_failed command told left gone old middle new turns before status faults so_far rose part later written =
+    let failed = failed_behind command told left gone old middle turns before faults so_far rose part in
     elim written [
       | inl whole ↦ inr (inl (record {
         entries = so_far.entries;
-        first = first;
-        cause = rose;
+        answered = so_far.answered;
+        failed = failed;
         written = Grows-trans old middle new (texts_of so_far.entries) (answer_line Object no_names ReadFault)
             so_far.written whole.grown;
         status_is = whole.status_is;
       }))
       | inr cut ↦ inr
-          (inr (cut_text command told old middle new faults so_far.entries (answer_line Object no_names ReadFault)
-          status first
-          (inr (rose, refl)) so_far.written later cut.cause cut.grown cut.status_is))
+          (inr (cut_text command told gone old middle new faults so_far.entries (answer_line Object no_names ReadFault)
+          status so_far.answered
+          (inr (failed, refl)) so_far.written later cut.cause cut.grown cut.status_is))
     ]
 
 -- the answer to a line was cut short
-pub write_failed : (command : Command) (told left after old middle new : Option (List ℕ)) (turns before status : ℕ)
-    (faults : Faults) (names : NameLists) (said : Said)
+pub write_failed : (command : Command) (told left after gone old middle new : Option (List ℕ)) (ahead : List ℕ)
+    (turns before status : ℕ) (faults : Faults) (names : NameLists) (said : Said)
     → SoFar command told left old middle turns before → NextAnswer command left after names said
-    → faults.sink_first ≤ faults.sink_middle
+    → after ≡ prepend_known ahead gone → faults.sink_first ≤ faults.sink_middle
     → IsWritten middle new faults.sink_middle faults.sink_last Object names said status → status ≡ 4
-    → IsLinedRun command told faults.source_first faults.source_last old new faults.sink_first faults.sink_last 4
-write_failed command told left after old middle new turns before status faults names said so_far next later written is =
-    let first = first_so_far command told left old middle turns before so_far in
+    → IsLinedRun command told gone faults.source_first faults.source_last old new faults.sink_first faults.sink_last 4
+write_failed command told left after gone old middle new ahead turns before status faults names said so_far next is_after
+    later written is =
     elim written [
       | inl whole ↦ absurd (never_failed said (sym whole.status_is ∙ is))
       | inr cut ↦ inr
-          (inr (cut_text command told old middle new faults so_far.entries (answer_line Object names said) 4 first
-          (inl (
-            record { line = next.line; names = names; said = said },
-            first_more command told left after names said so_far.entries next so_far.answered so_far.lines,
-            refl,
-          ))
+          (inr (cut_text command told gone old middle new faults so_far.entries (answer_line Object names said) 4
+          so_far.answered
+          (inl (next_text command told left after names said ahead gone so_far.entries next is_after so_far.answered
+          so_far.lines))
           so_far.written later cut.cause cut.grown refl))
     ]
 
@@ -301,39 +337,39 @@ whole_answer old new before after names said status written kept =
     elim written [ inl whole ↦ whole | inr cut ↦ absurd (kept cut.status_is) ]
 
 -- all lines are answered where neither end counts a fault
-complete_lines : (command : Command) (told old new : Option (List ℕ))
+complete_lines : (command : Command) (told left old new : Option (List ℕ))
     (source_before source_after sink_before sink_after status : ℕ)
-    → IsLinedRun command told source_before source_after old new sink_before sink_after status
+    → IsLinedRun command told left source_before source_after old new sink_before sink_after status
     → NoneCounted source_before source_after → NoneCounted sink_before sink_after
-    → AnswersLines command told old new status
-complete_lines command told old new source_before source_after sink_before sink_after status run quiet_source
+    → AnswersLines command told left old new status
+complete_lines command told left old new source_before source_after sink_before sink_after status run quiet_source
     quiet_sink = elim run [
       | inl all ↦ all
       | inr stops ↦ elim stops [
-        | inl read ↦ absurd (quiet_source read.cause)
+        | inl read ↦ absurd (quiet_source read.failed.cause)
         | inr write ↦ absurd (quiet_sink write.cause)
       ]
     ]
 
 -- what a run by lines came to, of the command that is asked for and of the program's exit status
-pub lined_as_asked : (asked : Option Command) (ran : Command) (told old new : Option (List ℕ)) (faults : Faults)
+pub lined_as_asked : (asked : Option Command) (ran : Command) (told left old new : Option (List ℕ)) (faults : Faults)
     (status exit : ℕ) → asked ≡ Some ran → exit ≡ status
-    → IsLinedRun ran told faults.source_first faults.source_last old new faults.sink_first faults.sink_last status
-    → IfSome asked (λ command. IsLinedRun command told faults.source_first faults.source_last old new
+    → IsLinedRun ran told left faults.source_first faults.source_last old new faults.sink_first faults.sink_last status
+    → IfSome asked (λ command. IsLinedRun command told left faults.source_first faults.source_last old new
     faults.sink_first faults.sink_last exit)
-lined_as_asked asked ran told old new faults status exit asks is run =
-    subst (λ (found : Option Command). IfSome found (λ command. IsLinedRun command told faults.source_first
+lined_as_asked asked ran told left old new faults status exit asks is run =
+    subst (λ (found : Option Command). IfSome found (λ command. IsLinedRun command told left faults.source_first
     faults.source_last old new faults.sink_first faults.sink_last exit)) (sym asks)
-    (subst (λ (n : ℕ). IsLinedRun ran told faults.source_first faults.source_last old new faults.sink_first
+    (subst (λ (n : ℕ). IsLinedRun ran told left faults.source_first faults.source_last old new faults.sink_first
     faults.sink_last n) (sym is) run)
 
 -- all lines are answered where neither end counts a fault
-pub complete_as_asked : (asked : Option Command) (told old new : Option (List ℕ)) (faults : Faults) (exit : ℕ)
-    → IfSome asked (λ command. IsLinedRun command told faults.source_first faults.source_last old new
+pub complete_as_asked : (asked : Option Command) (told left old new : Option (List ℕ)) (faults : Faults) (exit : ℕ)
+    → IfSome asked (λ command. IsLinedRun command told left faults.source_first faults.source_last old new
     faults.sink_first faults.sink_last exit)
     → IfSome asked (λ command. NoneCounted faults.source_first faults.source_last
-    → NoneCounted faults.sink_first faults.sink_last → AnswersLines command told old new exit)
-complete_as_asked (Some command) told old new faults exit run = λ quiet_source quiet_sink.
-    complete_lines command told old new faults.source_first faults.source_last faults.sink_first faults.sink_last exit
+    → NoneCounted faults.sink_first faults.sink_last → AnswersLines command told left old new exit)
+complete_as_asked (Some command) told left old new faults exit run = λ quiet_source quiet_sink.
+    complete_lines command told left old new faults.source_first faults.source_last faults.sink_first faults.sink_last exit
     run quiet_source quiet_sink
-complete_as_asked None told old new faults exit run = tt
+complete_as_asked None told left old new faults exit run = tt

@@ -1,13 +1,15 @@
 -- What a run comes to that answers its source line by line.
 use Rattle.std.specs.Prelude.{◌≡◌, ℕ, ◌<◌, ◌≤◌, ◌⊎◌, Bool, true, ◌==◌, ◌||◌, if◌then◌else◌, List, [], ◌∷◌, ◌++◌, map, flat_map, length, take, All, Option, Some}
+use Rattle.std.specs.Io.KnownBytes.{prepend_known}
 use Rattle.std.specs.List.{list_any}
 use Rattle.tn_said.specs.declared.said.Said.{Said}
 use Rattle.tn_said.specs.declared.said.Said.TheVariants.{ReadFault, NoMemory}
 use Rattle.tn_names.specs.Names.{NameLists, no_names}
 use Rattle.tn_answer.specs.AnswerText.{answer_line}
+use Rattle.tn_answer.specs.Kept.{IsWithinClaims}
 use Rattle.tn_answer.specs.declared.layout.Layout.TheVariants.{Object}
 use Rattle.tn_io.specs.Counts.{Rose}
-use Rattle.tn_io.specs.Lines.{TakesLines}
+use Rattle.tn_io.specs.Lines.{TakesLines, TakesPart}
 use Rattle.tn_io.specs.Sink.{Grows}
 use Rattle.tn_run.specs.declared.command.Command.{Command}
 use Rattle.tn_run.specs.Answer.{document_limit, too_long}
@@ -24,7 +26,7 @@ pub record Entry : Type 0 where
   pub names : NameLists
   pub said : Said
 
--- the answer of a command to the line, or want of memory
+-- the answer of a command to the line, which keeps the rules, or that the line is too long, or want of memory
 abbrev pub IsLineAnswer : Command → Entry → Type 0
 IsLineAnswer command entry = (entry.said ≡ NoMemory) ⊎ IsAnswerToAll command entry.line entry.names entry.said
 
@@ -35,10 +37,11 @@ IsLineHeadline command entry =
     (KeepsPromise command entry.line entry.said ⊎ ShowsFault command entry.line entry.said)
     ⊎ (((document_limit < length entry.line) × (entry.said ≡ too_long)) ⊎ (entry.said ≡ NoMemory))
 
--- what was said of each line is the command's answer to it or want of memory, and keeps the headline where that speaks
--- of the command
+-- what was said of each line is the command's answer to it or want of memory, its numbers are within the limits of
+-- claims, and it keeps the headline where that speaks of the command
 pub record AreAnswered (command : Command) (entries : List Entry) : Type 0 where
   pub answers : All (IsLineAnswer command) entries
+  pub within : All (λ entry. IsWithinClaims entry.said) entries
   pub headline : is_headlined command ≡ true → All (IsLineHeadline command) entries
 
 -- their lines, in order
@@ -66,53 +69,67 @@ with_status status answer =
     else if (status == status_number Fault) || (answer == status_number Fault) then status_number Fault
     else status_number Yes
 
--- all lines of the source were answered, and that alone was written
-pub record AnswersLines (command : Command) (told old new : Option (List ℕ)) (status : ℕ) : Type 0 where
+-- all lines of the source were answered, and that alone was written; the source gave them, and no more is left
+pub record AnswersLines (command : Command) (told left old new : Option (List ℕ)) (status : ℕ) : Type 0 where
   pub entries : List Entry
   pub answered : AreAnswered command entries
   pub lines : TakesLines told (Some []) (lines_of entries)
+  pub taken : TakesLines told left (lines_of entries)
   pub written : Grows old new (texts_of entries)
   pub status_is : status ≡ lines_status entries
 
--- the first lines of the source were answered, as far as it was read; in order, and each once
-pub record AnswersFirst (command : Command) (told : Option (List ℕ)) (entries : List Entry) : Type 0 where
-  pub answered : AreAnswered command entries
-  pub rest : List ℕ
-  pub lines : TakesLines told (Some rest) (lines_of entries)
-
--- a read failed after the answers to the first lines, and that it failed was written after them
-pub record StopsAtRead (command : Command) (told : Option (List ℕ)) (before after : ℕ) (old new : Option (List ℕ))
-    (status : ℕ) : Type 0 where
-  pub entries : List Entry
-  pub first : AnswersFirst command told entries
+-- a read failed behind the lines of the entries: the source gave these, in order and each once, and then a part of a
+-- line, in which no line feed stands; what is left comes after that
+pub record FailsBehind (told left : Option (List ℕ)) (before after : ℕ) (entries : List Entry) : Type 0 where
   pub cause : Rose before after
+  pub rest : Option (List ℕ)
+  pub lines : TakesLines told rest (lines_of entries)
+  pub part : TakesPart rest left
+
+-- a read failed, and every whole line before that has its answer; that it failed was written after them
+pub record StopsAtRead (command : Command) (told left : Option (List ℕ)) (before after : ℕ)
+    (old new : Option (List ℕ)) (status : ℕ) : Type 0 where
+  pub entries : List Entry
+  pub answered : AreAnswered command entries
+  pub failed : FailsBehind told left before after entries
   pub written : Grows old new (texts_of entries ++ answer_line Object no_names ReadFault)
   pub status_is : status ≡ status_number ReadFailed
 
--- the text that comes after those of the entries: the next line's answer, or that a read failed
-abbrev pub IsNextText : Command → Option (List ℕ) → ℕ → ℕ → List Entry → List ℕ → Type 0
-IsNextText command told before after entries text =
-    ((entry : Entry) × AnswersFirst command told (entries ++ entry ∷ [])
-    × (text ≡ answer_line Object entry.names entry.said))
-    ⊎ (Rose before after × (text ≡ answer_line Object no_names ReadFault))
+-- the text is the answer to the line that comes after those of the entries; the source gave their lines and this one,
+-- in order and each once, and then what is read ahead of the next; what is left comes after that
+pub record AnswersNext (command : Command) (told left : Option (List ℕ)) (entries : List Entry)
+    (text : List ℕ) : Type 0 where
+  pub entry : Entry
+  pub answered : AreAnswered command (entries ++ entry ∷ [])
+  pub ahead : List ℕ
+  pub lines : TakesLines told (prepend_known ahead left) (lines_of (entries ++ entry ∷ []))
+  pub text_is : text ≡ answer_line Object entry.names entry.said
+
+-- the text that comes after those of the entries: the next line's answer, or that a read failed behind their lines
+abbrev pub IsNextText : Command → Option (List ℕ) → Option (List ℕ) → ℕ → ℕ → List Entry → List ℕ → Type 0
+IsNextText command told left before after entries text =
+    AnswersNext command told left entries text
+    ⊎ (FailsBehind told left before after entries × (text ≡ answer_line Object no_names ReadFault))
 
 -- a write failed after the whole answers to the first lines, and at most a prefix of the next text was written after
 -- them
-pub record StopsAtWrite (command : Command) (told : Option (List ℕ)) (before after : ℕ) (old new : Option (List ℕ))
-    (faults_old faults_new status : ℕ) : Type 0 where
+pub record StopsAtWrite (command : Command) (told left : Option (List ℕ)) (before after : ℕ)
+    (old new : Option (List ℕ)) (faults_old faults_new status : ℕ) : Type 0 where
   pub entries : List Entry
-  pub first : AnswersFirst command told entries
+  pub answered : AreAnswered command entries
   pub text : List ℕ
-  pub next : IsNextText command told before after entries text
+  pub next : IsNextText command told left before after entries text
   pub cause : Rose faults_old faults_new
   pub count : ℕ
   pub within : count ≤ length text
   pub written : Grows old new (texts_of entries ++ take count text)
   pub status_is : status ≡ status_number WriteFailed
 
--- what a run by lines comes to, by what the source told and its counts of faults, and by the same of the sink
-abbrev pub IsLinedRun : Command → Option (List ℕ) → ℕ → ℕ → Option (List ℕ) → Option (List ℕ) → ℕ → ℕ → ℕ → Type 0
-IsLinedRun command told before after old new faults_old faults_new status =
-    AnswersLines command told old new status
-    ⊎ (StopsAtRead command told before after old new status
-    ⊎ StopsAtWrite command told before after old new faults_old faults_new status)
+-- what a run by lines comes to, by what the source told and has left and its counts of faults, and by what the sink
+-- tells before and after, with its counts
+abbrev pub IsLinedRun : Command → Option (List ℕ) → Option (List ℕ) → ℕ → ℕ → Option (List ℕ) → Option (List ℕ) → ℕ → ℕ
+    → ℕ → Type 0
+IsLinedRun command told left before after old new faults_old faults_new status =
+    AnswersLines command told left old new status
+    ⊎ (StopsAtRead command told left before after old new status
+    ⊎ StopsAtWrite command told left before after old new faults_old faults_new status)

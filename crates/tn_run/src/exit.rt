@@ -14,7 +14,7 @@ ghost use Rattle.tn_said.specs.declared.said.Said.{Said};
 
 use crate::lines::run_lines;
 use crate::request::{lines_command, request_of};
-use crate::top::run_market;
+use crate::top::run_request;
 use std::alloc::Global;
 use std::process::ExitCode;
 use tn_io::{Sink, Source};
@@ -40,18 +40,21 @@ pub fn run_to_exit<S: Source, K: Sink>(
         × IsWithinClaims said
         × IsWritten (K.written sink.old) (K.written sink.new) (K.faults sink.old) (K.faults sink.new)
         (layout_of (request_of (map string_bytes words.now))) names said (exit_status result) }
-    // Line by line: the answers to the first lines of the source, in order, each whole, and the status of all; or a
-    // failed read was told after them; or a write failed, and at most a prefix of one more text was written.
+    // Line by line: the answers to all lines of the source, in order, each whole, and the status of all; or a read
+    // failed, which was told after the answers to all whole lines before; or a write failed, and at most a prefix of
+    // one more text was written. What the source has left comes right after what was taken.
     ensures lines { IfSome (lines_command (request_of (map string_bytes words.now))) (λ command. IsLinedRun command
-        (S.left source.old) (S.faults source.old) (S.faults source.new) (K.written sink.old) (K.written sink.new)
-        (K.faults sink.old) (K.faults sink.new) (exit_status result)) }
+        (S.left source.old) (S.left source.new) (S.faults source.old) (S.faults source.new)
+        (K.written sink.old) (K.written sink.new) (K.faults sink.old) (K.faults sink.new) (exit_status result)) }
     // No fault counted at either end: the answers to all lines, and nothing else.
     ensures all_lines { IfSome (lines_command (request_of (map string_bytes words.now))) (λ command.
         NoneCounted (S.faults source.old) (S.faults source.new) → NoneCounted (K.faults sink.old) (K.faults sink.new)
-        → AnswersLines command (S.left source.old) (K.written sink.old) (K.written sink.new) (exit_status result)) }
+        → AnswersLines command (S.left source.old) (S.left source.new) (K.written sink.old) (K.written sink.new)
+        (exit_status result)) }
 {
-    match lines_command(request_of(words)) {
+    let request = request_of(words);
+    match lines_command(request) {
         Some(command) => ExitCode::from(run_lines(alloc, command, source, sink)),
-        None => ExitCode::from(run_market(alloc, words, source, sink).into_status()),
+        None => ExitCode::from(run_request(alloc, request, source, sink).into_status()),
     }
 }

@@ -1,12 +1,12 @@
 //! The run that answers its source line by line, each answer as an object.
 
 ghost use Rattle.std.specs.Prelude.{◌≡◌, ◌≤◌, ◌⊎◌, ℕ, List, ◌∷◌, [], IfOk, IfSome, IfNone, OnErr};
-ghost use Rattle.std.specs.Io.KnownBytes.{IsAtEnd, prepend_known};
+ghost use Rattle.std.specs.Io.KnownBytes.{Consumes, IsAtEnd, prepend_known};
 ghost use Rattle.tn_answer.specs.Kept.{IsWithinClaims};
 ghost use Rattle.tn_file.specs.Document.{reading_of};
 ghost use Rattle.tn_io.specs.Counts.{Rose};
-ghost use Rattle.tn_io.specs.Lines.{TakesLines};
-ghost use Rattle.tn_run.specs.Answer.{IsAnswerTo};
+ghost use Rattle.tn_io.specs.Lines.{TakesLines, TakesPart};
+ghost use Rattle.tn_run.specs.Answer.{IsAnswerTo, KeepsRules};
 ghost use Rattle.tn_run.specs.Lined.{IsLineAnswer, IsLinedRun, with_status};
 ghost use Rattle.tn_run.specs.Words.{need_of};
 
@@ -23,7 +23,7 @@ use tn_said::Said;
 /// The answer of a command to the bytes of a line, or that memory ran out; with the names that were read.
 fn answer_line(alloc: Global, command: Command, line: &[u8]) -> (Said, Names)
     ensures answer { (result.0 ≡ Said.NoMemory)
-        ⊎ IsAnswerTo command (reading_of (need_of command) line.now) result.1 result.0 }
+        ⊎ (IsAnswerTo command (reading_of (need_of command) line.now) result.1 result.0 × KeepsRules result.1 result.0) }
     ensures within { IsWithinClaims result.0 }
 {
     match answer_bytes(alloc, command, line) {
@@ -44,6 +44,9 @@ fn next_answer<S: Source>(
         (line ∷ [])
         × IsLineAnswer command (record { line = line; names = told.1; said = told.0 }))) }
     ensures end { IfOk result (λ next. IfNone next (IsAtEnd (prepend_known reader.old (S.left source.old)))) }
+    ensures rest { IfOk result (λ next. IfNone next
+        (Consumes (prepend_known reader.old (S.left source.old)) (S.left source.new) [])) }
+    ensures part { OnErr result (TakesPart (prepend_known reader.old (S.left source.old)) (S.left source.new)) }
     ensures within { IfOk result (λ next. IfSome next (λ told. IsWithinClaims told.0)) }
     ensures failed { OnErr result (Rose (S.faults source.old) (S.faults source.new)) }
     ensures later { S.faults source.old ≤ S.faults source.new }
@@ -72,15 +75,15 @@ fn with_status(status: u8, answer: u8) -> u8
     }
 }
 
-/// Answers each line of a source, and writes each answer before the next line is read. What comes back is the exit
-/// status.
+/// Answers each line of a source, and writes each answer before the next line is read. Where a read fails, every whole
+/// line before it has its answer. What comes back is the exit status.
 pub(crate) fn run_lines<S: Source, K: Sink>(
     alloc: Global,
     command: Command,
     source: &mut S,
     sink: &mut K,
 ) -> u8
-    ensures { IsLinedRun command (S.left source.old) (S.faults source.old) (S.faults source.new)
+    ensures { IsLinedRun command (S.left source.old) (S.left source.new) (S.faults source.old) (S.faults source.new)
         (K.written sink.old) (K.written sink.new) (K.faults sink.old) (K.faults sink.new) result }
 {
     let mut reader = LineReader::new();

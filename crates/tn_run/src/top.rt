@@ -174,23 +174,46 @@ fn say<S: Source>(alloc: Global, request: Request, source: &mut S) -> (Said, Nam
     }
 }
 
-/// The run, with the names that the answer's text is over.
+/// The run on a request, with the names that the answer's text is over.
 fn run_with<S: Source, K: Sink>(
     alloc: Global,
-    words: &[String],
+    request: Request,
     source: &mut S,
     sink: &mut K,
 ) -> (Run, Names)
-    ensures said { MaySay S.left S.faults (request_of (map string_bytes words.now)) source.old source.new result.1
-        result.0.said }
+    requires { IsWithinBounds request }
+    ensures said { MaySay S.left S.faults request source.old source.new result.1 result.0.said }
     ensures within { IsWithinClaims result.0.said }
     ensures written { IsWritten (K.written sink.old) (K.written sink.new) (K.faults sink.old) (K.faults sink.new)
-        (layout_of (request_of (map string_bytes words.now))) result.1 result.0.said result.0.status }
+        (layout_of request) result.1 result.0.said result.0.status }
 {
-    let request = request_of(words);
     let (said, names) = say(alloc, request, source);
     let run = tell(alloc, &names, said, layout_of(request), sink);
     (run, names)
+}
+
+/// The run on what words ask for: `run_market` says what it comes to.
+pub(crate) fn run_request<S: Source, K: Sink>(
+    alloc: Global,
+    request: Request,
+    source: &mut S,
+    sink: &mut K,
+) -> Run
+    requires { IsWithinBounds request }
+    ensures answer { (names : NameLists) × MaySay S.left S.faults request source.old source.new names result.said
+        × ((all : List ℕ) → S.left source.old ≡ Some all
+        → NoneCounted (S.faults source.old) (S.faults source.new) → NoneCounted (K.faults sink.old) (K.faults sink.new)
+        → AnswersAll request all (K.written sink.old) (K.written sink.new) names result.said result.status)
+        × IsWritten (K.written sink.old) (K.written sink.new) (K.faults sink.old) (K.faults sink.new) (layout_of request)
+        names result.said result.status }
+    ensures headline { IfDocument request (λ command layout. is_headlined command ≡ true
+        → IsHeadline command (S.left source.old) (S.left source.new) (S.faults source.old) (S.faults source.new)
+        result.said) }
+    ensures within { IsWithinClaims result.said }
+{
+    let (run, names) = run_with(alloc, request, source, sink);
+    drop(names);
+    run
 }
 
 /// Runs the program on its words: reads the source, if they ask for the answer to a document, answers, and writes the
@@ -221,9 +244,7 @@ pub fn run_market<S: Source, K: Sink>(
         result.said) }
     ensures within { IsWithinClaims result.said }
 {
-    let (run, names) = run_with(alloc, words, source, sink);
-    drop(names);
-    run
+    run_request(alloc, request_of(words), source, sink)
 }
 
 /// The run over ends in memory that never fail: it ends by neither a failed read nor a failed write.

@@ -4,7 +4,7 @@ use std::alloc::Global;
 use std::process::ExitCode;
 use std::test::Fail;
 use tn_answer::no_memory_text;
-use tn_io::{MemorySink, MemorySource, SteadySink, SteadySource};
+use tn_io::{MemorySink, MemorySource, Source, SteadySink, SteadySource};
 use tn_run::{run_market, run_steadily, run_to_exit};
 
 /// One trade from S to B at the price 4, worth -3 and 5.
@@ -121,26 +121,46 @@ fn tells_a_failed_end(rt: HostRuntime) -> Result<(), Fail> {
 }
 
 /// The deal, an empty line and the deal once more.
-fn three_lines(alloc: Global) -> Result<SteadySource, Fail> {
+fn three_lines(alloc: Global) -> Result<Vec<u8>, Fail> {
     let mut lines = DEAL.to_vec(alloc)?;
     lines.extend_from_slice(b"\n\n")?;
     lines.extend_from_slice(DEAL)?;
-    Ok(SteadySource::new(lines, 100))
+    Ok(lines)
 }
 
-/// How a run on these lines ends.
-fn run_lines(alloc: Global, sink: &mut SteadySink) -> Result<ExitCode, Fail> {
+/// How a run on lines ends.
+fn run_lines<S: Source>(
+    alloc: Global,
+    source: &mut S,
+    sink: &mut SteadySink,
+) -> Result<ExitCode, Fail> {
     let words = words_of(alloc, "check --lines")?;
-    let mut source = three_lines(alloc)?;
-    Ok(run_to_exit(alloc, &words, &mut source, sink))
+    Ok(run_to_exit(alloc, &words, source, sink))
 }
 
 #[test]
 fn answers_line_by_line(rt: HostRuntime) -> Result<(), Fail> {
+    let mut source = SteadySource::new(three_lines(rt.alloc())?, 100);
     let mut sink = SteadySink::with_room(rt.alloc(), 1_000, 10)?;
-    let exit = run_lines(rt.alloc(), &mut sink)?;
+    let exit = run_lines(rt.alloc(), &mut source, &mut sink)?;
     assert!(rt; exit == ExitCode::from(1));
     let written = format!(in rt.alloc(); "{EQUILIBRIUM}{NOT_JSON}{EQUILIBRIUM}")?;
+    assert!(rt; sink.written() == Some(written.as_bytes()));
+    Ok(())
+}
+
+/// A read fails within the third line: the two lines before it have their answers. What is left is the rest of the third.
+#[test]
+fn answers_the_lines_before_a_failed_read(rt: HostRuntime) -> Result<(), Fail> {
+    let fails = [16].to_vec(rt.alloc())?;
+    let mut source = MemorySource::new(three_lines(rt.alloc())?, 16, fails);
+    let mut sink = SteadySink::with_room(rt.alloc(), 1_000, 10)?;
+    let failed = run_lines(rt.alloc(), &mut source, &mut sink)?;
+    let rest = run_lines(rt.alloc(), &mut source, &mut sink)?;
+    assert!(rt; [failed, rest] == [ExitCode::from(3), ExitCode::from(1)]);
+    let written = format!(in rt.alloc();
+        "{EQUILIBRIUM}{NOT_JSON}{{\"answer\":\"read_fault\"}}\n{NOT_JSON}"
+    )?;
     assert!(rt; sink.written() == Some(written.as_bytes()));
     Ok(())
 }

@@ -20,7 +20,7 @@ pub returns-in-Err : goal.returns-in-Err
 returns-in-Err c = (
   no_names,
   NoMemory,
-  inl refl,
+  (inl refl, tt),
   subst (λ (text : List ℕ). IsTold text 5 c.args.out.now c.tell-in-Err.new.out c.tell-in-Err.result)
       (c.no_memory_text.ensures (layout_of (request_of (words_in c.args.words.now))) no_names)
       (rw c.number.ensures at c.tell-in-Err.ensures),

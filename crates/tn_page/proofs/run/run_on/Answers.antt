@@ -24,7 +24,11 @@ returns-clause-answer c =
     let all = answer.2 document is_document (none_counted 0 0 refl) quiet in (
       names,
       said,
-      inr (subst (λ (words : List (List ℕ)). SaysOfAll (request_of words) document names said) are_words all.answer),
+      (
+        inr
+            (subst (λ (words : List (List ℕ)). SaysOfAll (request_of words) document names said) are_words all.answer),
+        c.run_market.ensures.within,
+      ),
       all.written.grown ∙ ap (λ (bytes : List ℕ). bytes ++ answer_line (layout_of (request_of asked)) names said)
           c.new-sink.ensures.bytes
           ∙ ap (λ (words : List (List ℕ)). answer_line (layout_of (request_of words)) names said) are_words,

@@ -9,7 +9,7 @@ use Rattle.tn_run.proofs.exit.run_to_exit.Goals as goal
 pub returns-in-Some-clause-lines : goal.returns-in-Some-clause-lines
 returns-in-Some-clause-lines g c =
     lined_as_asked (lines_command (request_of (map string_bytes c.args.words.now))) c.in-Some.command
-    (g.S.Source.left c.args.source.now) (g.K.Sink.written c.args.sink.now) (g.K.Sink.written c.run_lines.new.sink)
+    (g.S.Source.left c.args.source.now) (g.S.Source.left c.run_lines.new.source) (g.K.Sink.written c.args.sink.now) (g.K.Sink.written c.run_lines.new.sink)
     (record {
       source_first = g.S.Source.faults c.args.source.now;
       source_last = g.S.Source.faults c.run_lines.new.source;
@@ -18,13 +18,13 @@ returns-in-Some-clause-lines g c =
       sink_last = g.K.Sink.faults c.run_lines.new.sink;
     })
     c.run_lines.result _
-    (ap lines_command (sym c.request_of.ensures.request) ∙ sym c.lines_command.ensures ∙ c.in-Some.is) c.from.ensures
+    (ap lines_command (sym c.request_of-request.ensures.request) ∙ sym c.lines_command.ensures ∙ c.in-Some.is) c.from.ensures
     c.run_lines.ensures
 
 pub returns-in-Some-clause-all_lines : goal.returns-in-Some-clause-all_lines
 returns-in-Some-clause-all_lines g c =
     complete_as_asked (lines_command (request_of (map string_bytes c.args.words.now)))
-    (g.S.Source.left c.args.source.now) (g.K.Sink.written c.args.sink.now) (g.K.Sink.written c.run_lines.new.sink)
+    (g.S.Source.left c.args.source.now) (g.S.Source.left c.run_lines.new.source) (g.K.Sink.written c.args.sink.now) (g.K.Sink.written c.run_lines.new.sink)
     (record {
       source_first = g.S.Source.faults c.args.source.now;
       source_last = g.S.Source.faults c.run_lines.new.source;
@@ -35,22 +35,22 @@ returns-in-Some-clause-all_lines g c =
 
 pub returns-in-None-clause-answer : goal.returns-in-None-clause-answer
 returns-in-None-clause-answer g c =
-    let run = c.run_market.result in
-    let answers = c.run_market.ensures.answer in
+    let run = c.run_request.result in
+    let answers = rw c.request_of-request.ensures.request at c.run_request.ensures.answer in
     let request = request_of (map string_bytes c.args.words.now) in
     λ _. (
       run.said,
       answers.0,
       answers.1,
-      c.run_market.ensures.headline,
+      rw c.request_of-request.ensures.request at c.run_request.ensures.headline,
       λ all told quiet_source quiet_sink.
           subst (λ (status : ℕ). AnswersAll request all (g.K.Sink.written c.args.sink.now)
-          (g.K.Sink.written c.run_market.new.sink) answers.0 run.said status)
+          (g.K.Sink.written c.run_request.new.sink) answers.0 run.said status)
           (sym (c.from-in-None.ensures ∙ c.into_status.ensures)) (answers.2 all told quiet_source quiet_sink),
-      c.run_market.ensures.within,
+      c.run_request.ensures.within,
       subst
-          (λ (status : ℕ). IsWritten (g.K.Sink.written c.args.sink.now) (g.K.Sink.written c.run_market.new.sink)
-          (g.K.Sink.faults c.args.sink.now) (g.K.Sink.faults c.run_market.new.sink) (layout_of request) answers.0
+          (λ (status : ℕ). IsWritten (g.K.Sink.written c.args.sink.now) (g.K.Sink.written c.run_request.new.sink)
+          (g.K.Sink.faults c.args.sink.now) (g.K.Sink.faults c.run_request.new.sink) (layout_of request) answers.0
           run.said status)
           (sym (c.from-in-None.ensures ∙ c.into_status.ensures)) answers.3,
     )

@@ -1,25 +1,8 @@
 -- What shows the clauses of `run_market` of `src/top.rt`.
-use Rattle.std.proofs.Common.{map, string_bytes}
-use Rattle.tn_run.specs.Request.{request_of}
-use Rattle.tn_run.proofs.CompleteLemmas.{complete_run}
-use Rattle.tn_run.proofs.HeadlineLemmas.{headline_on}
 use Rattle.tn_run.proofs.top.run_market.Goals as goal
 
 pub returns-clause-answer : goal.returns-clause-answer
-returns-clause-answer g c = (
-  c.run_with-run.result.1,
-  c.run_with-run.ensures.said,
-  λ all told quiet_source quiet_sink.
-      complete_run g.S.Source.left g.S.Source.faults (request_of (map string_bytes c.args.words.now)) all
-      c.args.source.now c.run_with-run.new.source (g.K.Sink.written c.args.sink.now)
-      (g.K.Sink.written c.run_with-run.new.sink) (g.K.Sink.faults c.args.sink.now)
-      (g.K.Sink.faults c.run_with-run.new.sink) c.run_with-run.result.1 c.run_with-run.result.0.said
-      c.run_with-run.result.0.status told quiet_source quiet_sink c.run_with-run.ensures.said
-      c.run_with-run.ensures.written,
-  c.run_with-run.ensures.written,
-)
+returns-clause-answer g c = rw c.request_of.ensures.request at c.run_request.ensures.answer
 
 pub returns-clause-headline : goal.returns-clause-headline
-returns-clause-headline g c =
-    headline_on g.S.Source.left g.S.Source.faults (request_of (map string_bytes c.args.words.now)) c.args.source.now
-    c.run_with-run.new.source c.run_with-run.result.1 c.run_with-run.result.0.said c.run_with-run.ensures.said
+returns-clause-headline g c = rw c.request_of.ensures.request at c.run_request.ensures.headline
