@@ -16,7 +16,7 @@ use Rattle.tn_dealer.specs.declared.pair.Pair.{Pair}
 use Rattle.tn_dealer.specs.Pairs.{matched_worth, IsOwnPair}
 use Rattle.tn_dealer.specs.Certificates.{bound_of, KeepsPairs, KeepsAt, KeepsBeside, TakesAt, MayTake}
 use Rattle.tn_dealer.specs.Costs.{AreCosts, cost_at, far, place_of_pair}
-use Rattle.tn_firm_laws.proofs.PairLemmas.{IsWorth}
+use Rattle.tn_firm_laws.specs.Worths.{IsWorth}
 use Rattle.tn_dealer.specs.WorthLemmas.{AreOwnPairs, Paired, own_rest, matched_left, matched_right, matched_from, matched_none, matched_empty}
 use Rattle.tn_dealer.specs.WithinLemmas.{matched_within}
 use Rattle.tn_market.specs.Widths.{most_own, most_worth}

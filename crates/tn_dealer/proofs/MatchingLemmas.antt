@@ -10,7 +10,7 @@ use Rattle.tn_dealer.specs.declared.pair.Pair.{Pair}
 use Rattle.tn_dealer.specs.Pairs.{matched_worth, IsOwnPair}
 use Rattle.tn_dealer.specs.Matchings.{Joins, Matches, IsMatching, matching_cost, IsWorthOfLeast}
 use Rattle.tn_dealer.specs.MatchingLaw.{DealersMatch}
-use Rattle.tn_firm_laws.proofs.PairLemmas.{IsWorth}
+use Rattle.tn_firm_laws.specs.Worths.{IsWorth}
 use Rattle.tn_dealer.specs.WorthLemmas.{AreOwnPairs, own_pairs, own_rest, matched_left, matched_right, matched_from, matched_none, matched_empty}
 
 -- the chosen places of a list with one pair more in front

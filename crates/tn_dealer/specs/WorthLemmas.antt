@@ -18,7 +18,8 @@ use Rattle.tn_market.specs.Reduced.{greater}
 use Rattle.tn_dealer.specs.declared.pair.Pair.{Pair}
 use Rattle.tn_dealer.specs.Pairs.{with_pair, matched_worth, dealing, IsOwnPair}
 use Rattle.tn_firm_laws.proofs.MoveLemmas.{move-twice}
-use Rattle.tn_firm_laws.proofs.PairLemmas.{IsWorth, Swaps, HasOneMore}
+use Rattle.tn_firm_laws.specs.Worths.{IsWorth}
+use Rattle.tn_firm_laws.proofs.PairLemmas.{Swaps, HasOneMore}
 use Rattle.tn_firm_laws.proofs.PairSideLemmas.{Above, ArePaired, HasPair, one_more_swaps}
 
 -- the pair at each place is one of own trades

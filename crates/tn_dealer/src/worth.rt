@@ -8,7 +8,7 @@ ghost use Rattle.tn_market.specs.Reduced.{greater};
 ghost use Rattle.tn_dealer.specs.Pairs.{matched_worth};
 ghost use Rattle.tn_dealer.specs.Certificates.{own_number, KeepsAt, KeepsBeside, KeepsPairs, MayTake};
 ghost use Rattle.tn_dealer.specs.Costs.{AreCosts, far};
-ghost use Rattle.tn_firm_laws.proofs.PairLemmas.{IsWorth};
+ghost use Rattle.tn_firm_laws.specs.Worths.{IsWorth};
 ghost use Rattle.tn_base.specs.Widths.{most_amount};
 ghost use Rattle.tn_market.specs.Widths.{most_worth, most_own};
 

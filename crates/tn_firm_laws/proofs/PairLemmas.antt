@@ -9,13 +9,8 @@ use Rattle.std.proofs.lemmas.Bool.{cases_eq, cases_Bool, false≢true}
 use Rattle.std.proofs.lemmas.Option.{same_Some}
 use Rattle.tn_base.specs.Sets.{has}
 use Rattle.tn_firm_laws.specs.Places.{move}
+use Rattle.tn_firm_laws.specs.Worths.{IsWorth}
 use Rattle.tn_firm_laws.proofs.MoveLemmas.{move-order, move-through, move-same, move-twice, move-over, move-last, move-first_again, move-first_last, has_move-other, has_move-first, has_move-second}
-
--- the bundle is possible, and worth at least this
-pub record IsWorth (worth : ℕ → Option ℤ) (x : ℕ) (a : ℤ) : Type 0 where
-  pub value : ℤ
-  pub is : worth x ≡ Some value
-  pub enough : a ≤ℤ value
 
 -- some place of the down side can be toggled in both bundles beside place i
 pub record Swap (n : ℕ) (Up : ℕ → ℕ → ℕ → Type 0) (worth : ℕ → Option ℤ) (x y : ℕ) (total : ℤ) (i : ℕ) : Type 0 where

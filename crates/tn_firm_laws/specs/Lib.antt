@@ -7,3 +7,4 @@ pub mod Ordered
 pub mod Laws
 pub mod Close
 pub mod Quads
+pub mod Worths

@@ -23,4 +23,5 @@ pub mod LeviedLemmas
 pub mod Outside
 pub mod OutsideLemmas
 pub mod Parties
+pub mod PartyLemmas
 pub mod Chains

@@ -1,11 +1,8 @@
 -- The firms of a residual market.
 use Rattle.std.specs.Prelude.{ℕ, unsigned_abs}
 use Rattle.tn_base.specs.Firm.{Firm}
-use Rattle.tn_market.specs.Lawful.{IsLawful}
 use Rattle.tn_market.specs.Levied.{levied, levied_limit}
-use Rattle.tn_market.specs.LeviedLemmas.{levied_laws}
 use Rattle.tn_market.specs.Outside.{outside}
-use Rattle.tn_market.specs.OutsideLemmas.{outside_laws}
 use Rattle.tn_market.specs.declared.valuation.Valuation.{Ghosts}
 use Rattle.tn_market.specs.declared.party.Party.{Party}
 use Rattle.tn_market.specs.declared.party.Party.TheVariants.{Firm as Member, Outside}
@@ -19,12 +16,3 @@ party_firm market (Outside out) = outside out.price
 abbrev pub party_limit : {V M : Type 0} (market : Ghosts V M) → Party V M market → ℕ
 party_limit market (Member v) = levied_limit v.scale v.tax (unsigned_abs v.worth)
 party_limit market (Outside out) = unsigned_abs out.price
-
--- either is a firm that may be asked
-pub party_laws : {V M : Type 0} {market : Ghosts V M} → ((v : V) → IsLawful (market.limit v) (market.firm v))
-    → (party : Party V M market)
-    → IsLawful (party_limit market party) (party_firm market party)
-party_laws {V} {M} {market} laws (Member v) =
-    levied_laws v.scale v.tax v.taxed (unsigned_abs v.worth) (market.limit v.inner.now) (market.firm v.inner.now) v.levy
-    v.worths (laws v.inner.now)
-party_laws {V} {M} {market} laws (Outside out) = outside_laws out.price out.small

@@ -94,7 +94,8 @@ pub enum Party<'a, V: Valuation> {
 }
 
 impl<V: Valuation> Valuation for Party<'_, V> {
-    ghost use Rattle.tn_market.specs.Parties.{party_firm, party_limit, party_laws};
+    ghost use Rattle.tn_market.specs.Parties.{party_firm, party_limit};
+    ghost use Rattle.tn_market.specs.PartyLemmas.{party_laws};
 
     type Mark = V::Mark;
 

@@ -2,7 +2,8 @@
 use Rattle.std.proofs.Common.{◌∙◌, ◌+◌, ◌*◌, ◌≤◌, ℕ, map, length, arith, sym, ap, subst, lit<, ◌<◌}
 use Rattle.std.proofs.lemmas.Nat.{mul-le}
 use Rattle.tn_base.specs.Firm.{Firm, HasOwnBundles}
-use Rattle.tn_market.specs.Parties.{party_firm, party_laws, party_limit}
+use Rattle.tn_market.specs.Parties.{party_firm, party_limit}
+use Rattle.tn_market.specs.PartyLemmas.{party_laws}
 use Rattle.tn_network_laws.proofs.EachLemmas.{each_firm}
 use Rattle.tn_residual.proofs.MakingLemmas.{outcome_feasible}
 use Rattle.tn_residual.specs.Residual.{residual_limit, number_from}

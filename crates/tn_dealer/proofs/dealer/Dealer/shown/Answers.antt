@@ -6,7 +6,7 @@ use mir.Syntax.{w128}
 use mir.Val.{SFits, of_z, to_z}
 use Rattle.tn_dealer.specs.Certificates.{own_number}
 use Rattle.tn_dealer.specs.Pairs.{matched_worth}
-use Rattle.tn_firm_laws.proofs.PairLemmas.{IsWorth}
+use Rattle.tn_firm_laws.specs.Worths.{IsWorth}
 use Rattle.tn_dealer.specs.WorthLemmas.{own_pairs}
 use Rattle.tn_dealer.proofs.CertificateLemmas.{shows_none, shows_least, cost_fits, minus_is}
 use Rattle.tn_dealer.proofs.dealer.Dealer.shown.Goals as goal

@@ -4,7 +4,7 @@ use Rattle.std.proofs.lemmas.Int.{ints, to_z-of_z}
 use mir.Syntax.{w128}
 use mir.Val.{SFits}
 use Rattle.tn_dealer.specs.Pairs.{matched_worth}
-use Rattle.tn_firm_laws.proofs.PairLemmas.{IsWorth}
+use Rattle.tn_firm_laws.specs.Worths.{IsWorth}
 use Rattle.tn_dealer.specs.WorthLemmas.{own_pairs}
 use Rattle.tn_dealer.proofs.CertificateLemmas.{no_pairs_taken, taken_more, taken_small}
 use Rattle.tn_dealer.proofs.dealer.Dealer.taken.Goals as goal

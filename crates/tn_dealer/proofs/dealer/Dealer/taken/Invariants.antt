@@ -3,7 +3,7 @@ use Rattle.std.proofs.Common.{◌*◌}
 use Rattle.std.specs.Prelude.{neg_ℤ}
 use Rattle.tn_base.specs.Arcs.{IsAtMost}
 use Rattle.tn_dealer.specs.Pairs.{matched_worth}
-use Rattle.tn_firm_laws.proofs.PairLemmas.{IsWorth}
+use Rattle.tn_firm_laws.specs.Worths.{IsWorth}
 use Rattle.tn_dealer.proofs.dealer.Dealer.taken.Given as goal
 use Rattle.tn_base.specs.Widths.{most_amount}
 
