@@ -20,6 +20,7 @@ use Rattle.tn_model.specs.Limits.{most_worth_among}
 use Rattle.tn_commands.specs.Limits.{AreWorthsAnswered}
 use Rattle.tn_model.specs.Choices.{contracts_of}
 use Rattle.tn_market.specs.Equilibrium.{IsEquilibrium, surplus_of}
+use Rattle.tn_market.specs.Graph.{graph_worths}
 use Rattle.tn_model.specs.Network.{IsNetwork, part, trades_on}
 
 -- whether trade t is admitted after an edit, by whether it was before it
@@ -116,3 +117,7 @@ pub record StandsAfter (firms : List FirmValue) (trades : List Ends) (edits : Li
     (session : Standing FirmValue) : Type 0 where
   pub stands : StandsOn firms trades session
   pub each : (t : ℕ) (trade : Ends) → slice_get trades t ≡ Some trade → IsAfter edits t trade kept session.admitted
+
+-- how many worths an edit may ask for, of all trades too: as many for each trade as a graph of the firms has
+abbrev pub edit_worths : List Firm → List Ends → ℕ
+edit_worths firms trades = length trades * graph_worths firms

@@ -1,15 +1,16 @@
 //! The answer of `session`.
 
-ghost use Rattle.std.specs.Prelude.{◌≡◌, ◌≢◌, ℕ, ◌+◌, ◌<◌, ◌≤◌, List, [], ◌∷◌, ◌++◌, ◌&&◌, not, All, IfOk, length, take};
+ghost use Rattle.std.specs.Prelude.{◌≡◌, ◌≢◌, ℕ, ◌+◌, ◌*◌, ◌<◌, ◌≤◌, List, [], ◌∷◌, ◌++◌, ◌&&◌, not, All, IfOk, length, map, take};
 ghost use Rattle.tn_base.specs.Sets.{has};
 ghost use Rattle.tn_answer.specs.Kept.{IsWithinClaims, IsWithinState};
-ghost use Rattle.tn_commands.specs.Session.{AreStates, IsAfter, IsStateOf, StandsAfter, StandsOn, TellsStates, is_admitted_by, is_away_by};
+ghost use Rattle.tn_commands.specs.Session.{AreStates, IsAfter, IsStateOf, StandsAfter, StandsOn, TellsStates, edit_worths, is_admitted_by, is_away_by};
 ghost use Rattle.tn_commands.specs.Limits.{AreWorthsAnswered, most_answered_trades};
 ghost use Rattle.tn_firm.specs.Firms.{firm_of};
 ghost use Rattle.tn_model.specs.Prices.{price_at};
 ghost use Rattle.tn_model.specs.Choices.{contracts_of};
 ghost use Rattle.tn_said.specs.declared.session.Edit.{Edit};
 ghost use Rattle.tn_session.specs.Standing.{HasSmallPrices, HoldsEquilibrium};
+ghost use Rattle.tn_market.specs.Graph.{graph_worths};
 ghost use Rattle.tn_market.specs.NetworkOf.{network_of};
 
 use crate::solve::{surplus, trades_on};
@@ -130,7 +131,7 @@ fn is_usable(kept: &Kept, t: u32) -> bool
     kept.admitted.has(t) && !kept.seller_away.has(t) && !kept.buyer_away.has(t)
 }
 
-/// Admits or bars a trade in a session. Where that is so already it changes nothing and asks for no worth.
+/// Admits or bars a trade in a session.
 fn put_to_use(session: &mut Session<FirmValue, 16>, t: u32, used: bool, steps: &mut Steps<Asked>)
     requires { t < length session.old.market.trades }
     ensures here { has session.new.admitted t ≡ used }
@@ -138,6 +139,7 @@ fn put_to_use(session: &mut Session<FirmValue, 16>, t: u32, used: bool, steps: &
     ensures market { session.new.market ≡ session.old.market }
     ensures equilibrium { HoldsEquilibrium firm_of session.new }
     ensures prices { HasSmallPrices firm_of session.new }
+    ensures asked { steps.new ≤ steps.old + graph_worths (map firm_of session.old.market.firms) }
 {
     if used {
         session.admit(t, steps);
@@ -163,6 +165,7 @@ fn make_at(
     ensures elsewhere { (edits : List Edit) (k : ℕ) (other : _) → k ≢ t
         → IsAfter edits k other kept.old session.old.admitted
         → IsAfter edits k other kept.new session.new.admitted }
+    ensures asked { steps.new ≤ steps.old + graph_worths (map firm_of session.old.market.firms) }
 {
     let is_admitted = is_admitted_by(t, edit, kept.admitted.has(t));
     let is_seller_away = is_away_by(trade.seller, edit, kept.seller_away.has(t));
@@ -186,7 +189,8 @@ fn make(
     requires wide { length market.now.trades ≤ most_answered_trades }
     requires known { k < length edits.now }
     requires stands { StandsAfter market.now.firms market.now.trades (take k edits.now) kept.old session.old }
-    ensures { StandsAfter market.now.firms market.now.trades (take (k + 1) edits.now) kept.new session.new }
+    ensures stands { StandsAfter market.now.firms market.now.trades (take (k + 1) edits.now) kept.new session.new }
+    ensures asked { steps.new ≤ steps.old + edit_worths (map firm_of market.now.firms) market.now.trades }
 {
     let edit = *edits.at(k);
     for t in 0..market.trades() {
@@ -207,6 +211,8 @@ fn states_from(
     requires none_admitted { session.old.admitted ≡ 0 }
     ensures states { IfOk result (network_of firm_of market.now AreStates edits.now) }
     ensures within { IfOk result (All IsWithinState) }
+    ensures asked { steps.new ≤ steps.old + length edits.now * edit_worths (map firm_of market.now.firms)
+        market.now.trades }
 {
     let mut kept = nothing_kept();
     let mut states = Vec::with_capacity(alloc, edits.len())?;
