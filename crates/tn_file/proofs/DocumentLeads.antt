@@ -1,16 +1,21 @@
 -- Every document that is read is a network with its names.
-use Rattle.std.proofs.Common.{◌≡◌, ℕ, ◌<◌, ◌≤◌, ◌^◌, List, [], length, Result, Ok, Err, refl, sym, ap, subst, ◌∙◌, arith}
-use Rattle.std.specs.Prelude.{not, IfOk}
+use Rattle.std.proofs.Common.{◌≡◌, ℕ, ◌<◌, ◌≤◌, ◌^◌, List, [], ◌∷◌, length, Option, Some, Result, Ok, Err, refl, sym, ap, subst, ◌∙◌, arith}
+use Rattle.std.specs.Prelude.{codes, not, option_and_then, IfOk}
 use Rattle.serde_json.specs.Data.{Data, Items}
 use Rattle.serde_json.specs.Events.{items_len}
+use Rattle.serde_json.specs.Find.{get, as_number, as_u64}
 use Rattle.tn_base.specs.Firm.{Firm}
 use Rattle.tn_market.specs.Valued.{IsWorthAtMost}
-use Rattle.tn_said.specs.declared.fault.FaultKind.TheVariants.{NotJson}
+use Rattle.tn_said.specs.declared.fault.FaultKind.TheVariants.{NotJson, Shape}
+use Rattle.tn_said.specs.declared.place.PlaceStep.TheVariants.{Key}
+use Rattle.tn_said.specs.declared.place.Word.TheVariants.{Version, Firms, Trades}
 use Rattle.tn_names.specs.Names.{no_names}
 use Rattle.tn_file.specs.declared.need.Need.{Need}
 use Rattle.tn_file.specs.declared.need.Need.TheVariants.{Market, Raw, Arrangement, RawArrangement, On, Outcome, Edits, Claim}
 use Rattle.tn_read_head.specs.Beside.{with_names}
+use Rattle.tn_read_shapes.specs.declared.members.ObjectKind.TheVariants.{Top}
 use Rattle.tn_read_shapes.specs.Reading.{each, wanted}
+use Rattle.tn_read_shapes.specs.Shapes.{few_at, object_of}
 use Rattle.tn_file.specs.Json.{json_of}
 use Rattle.tn_read_references.specs.Ordered.{AreTrades, Listed}
 use Rattle.tn_read_firms.specs.Firms.{one_firm}
@@ -19,21 +24,23 @@ use Rattle.tn_read_parts.specs.Signed.{outcome_of}
 use Rattle.tn_read_parts.specs.Edited.{edits_of}
 use Rattle.tn_said.specs.Edits.{AreEdits}
 use Rattle.tn_said.specs.ClaimLimits.{IsClaimWithin}
-use Rattle.tn_model.specs.Limits.{most_worth_among, worth_limit}
+use Rattle.tn_model.specs.Limits.{limits_of, most_worth_among, worth_limit}
+use Rattle.tn_model.specs.declared.limits.Limits.{Limits}
 use Rattle.tn_model.specs.Network.{IsNetwork}
 use Rattle.tn_model.specs.OutcomeLimits.{IsOutcomeWithin}
 use Rattle.tn_read_claims.specs.Claimed.{claim_of, claims_raw, is_raw_kind, kind_is}
 use Rattle.tn_read_claims.proofs.ClaimLeads.{claim_leads}
 use Rattle.tn_read_claims.proofs.KindLeads.{claims_keep_limits, raw_claims_are_told}
 use Rattle.tn_read_claims.specs.Laws.{KeepsClaimLimits}
-use Rattle.tn_file.specs.Document.{ExtraData, nothing, arrangement, on_alone, outcome, edits, claim, extra_of, content_of, document_of, is_accepted, is_tested, reading_of}
-use Rattle.tn_read_head.specs.Listing.{listed_of}
+use Rattle.tn_file.specs.Document.{DocumentData, ExtraData, nothing, arrangement, on_alone, outcome, edits, claim, extra_of, content_of, document_of, is_accepted, is_tested, reading_of}
+use Rattle.tn_read_head.specs.Listing.{limits_at, listed_of}
+use Rattle.tn_read_head.specs.Naming.{one_firm_name, one_trade}
 use Rattle.tn_read_head.specs.Refused.{Reads}
 use Rattle.tn_read_head.specs.declared.refusal.DocRefusal.{DocRefusal}
 use Rattle.tn_file.specs.Refusal.{document_view}
 use Rattle.tn_file.specs.declared.document.Document.{Document}
-use Rattle.tn_file.specs.Laws.{IsDocument, IsExtra, KeepsLimits, DocumentsAreNetworks}
-use Rattle.tn_read_shapes.proofs.LeadLemmas.{Leads, leads_ok, leads_bind, leads_after, leads_both}
+use Rattle.tn_file.specs.Laws.{IsDocument, IsDocumentOf, IsExtra, KeepsLimits, DocumentsAreNetworks}
+use Rattle.tn_read_shapes.proofs.LeadLemmas.{Leads, leads_ok, leads_as, leads_bind, leads_after, leads_both, leads_wanted}
 use Rattle.tn_read_head.proofs.BesideLemmas.{leads_beside}
 use Rattle.tn_read_firms.proofs.FirmLeads.{AreFirms, firms_are, firms_are_counted, network_of, positions_ascend}
 use Rattle.tn_read_references.proofs.EntryLeads.{within_more}
@@ -208,30 +215,98 @@ is_document need top found content listing is =
       extra_keeps = is.keeps;
     }
 
-pub document_leads : (need : Need) (top : Data) → Leads (IsDocument need) (document_of need top)
-unfolding document_of
-document_leads need top =
-    leads_bind IsListing (IsDocument need) (listed_of top) _ (listed_leads top) (λ found listing.
-    leads_bind (IsContent need top found listing) (IsDocument need)
+-- ---- the version that a document says
+
+abbrev says_version : Data → Option ℕ
+says_version top = option_and_then as_u64 (option_and_then as_number (get (codes "version") top))
+
+-- the limits are those of the version that the document says
+record IsSaid (top : Data) (limits : Limits) : Type 0 where
+  version : ℕ
+  says : says_version top ≡ Some version
+  are : limits_of version ≡ Some limits
+
+limits_said : (top : Data) → Leads (IsSaid top) (limits_at top)
+unfolding limits_at
+limits_said top =
+    leads_bind (λ version. says_version top ≡ Some version) (IsSaid top)
+    (wanted Shape (Key Version ∷ []) (says_version top)) _
+    (leads_wanted Shape (Key Version ∷ []) (says_version top)) (λ version says.
+    leads_as (λ limits. limits_of version ≡ Some limits) (IsSaid top) _
+    (λ limits are. record { version = version; says = says; are = are })
+    (leads_wanted Shape (Key Version ∷ []) (limits_of version)))
+
+listed_said : (top : Data) → Leads (λ found. IsSaid top found.0.limits) (listed_of top)
+unfolding listed_of
+listed_said top =
+    let P = λ (found : Listed × Items). IsSaid top found.0.limits in
+    leads_after P (with_names no_names (object_of Top [] (Some top))) _ (λ object.
+    leads_bind (IsSaid top) P (with_names no_names (limits_at top)) _
+    (leads_beside _ no_names (limits_at top) (limits_said top)) (λ limits said.
+    leads_after P (with_names no_names (few_at limits.firms (Key Firms ∷ []) (get (codes "firms") top))) _
+    (λ firms.
+    leads_after P (each one_firm_name no_names firms) _ (λ names.
+    leads_after P (with_names names (few_at limits.trades (Key Trades ∷ []) (get (codes "trades") top))) _
+    (λ trades.
+    leads_after P (each one_trade (record { names = names; ends = [] }) trades) _ (λ named.
+    leads_ok P (record { limits = limits; names = named.names; ends = named.ends }, firms) said))))))
+
+-- the same listing, with the version that the document says
+as_said : (top : Data) (found : Listed × Items) → IsListing found → IsSaid top found.0.limits → IsListing found
+as_said top found listing said = record {
+  firm_names = listing.firm_names;
+  trade_names = listing.trade_names;
+  trades = listing.trades;
+  limits = (said.version, said.are);
+  count = listing.count;
+  few = listing.few;
+}
+
+-- a document, within the limits of the version that its value says
+record IsDocumentIn (need : Need) (top : Data) (doc : DocumentData) : Type 0 where
+  document : IsDocument need doc
+  says : says_version top ≡ Some document.version
+
+said_leads : (need : Need) (top : Data) → Leads (IsDocumentIn need top) (document_of need top)
+unfolding document_of is_document as_said
+said_leads need top =
+    leads_bind (λ found. IsListing found × IsSaid top found.0.limits) (IsDocumentIn need top) (listed_of top) _
+    (leads_both IsListing _ (listed_of top) (listed_leads top) (listed_said top)) (λ found known.
+    let listing = as_said top found known.0 known.1 in
+    leads_bind (IsContent need top found listing) (IsDocumentIn need top)
     (with_names found.0.names (content_of need found.0 found.1 top)) _
     (leads_beside _ found.0.names (content_of need found.0 found.1 top) (content_leads need found listing top))
     (λ content is.
-    leads_ok (IsDocument need) (record {
+    leads_ok (IsDocumentIn need top) (record {
       names = found.0.names;
       firms = content.0;
       ends = found.0.ends;
       extra =
           content.1;
-    }) (is_document need top found content listing is)))
+    }) (record { document = is_document need top found content listing is; says = known.1.says })))
 
-reading_leads : (need : Need) (bytes : List ℕ) → Leads (IsDocument need) (reading_of need bytes)
+pub document_leads : (need : Need) (top : Data) → Leads (IsDocument need) (document_of need top)
+document_leads need top =
+    leads_as (IsDocumentIn need top) (IsDocument need) (document_of need top) (λ doc is. is.document)
+    (said_leads need top)
+
+reading_leads : (need : Need) (bytes : List ℕ) → Leads (IsDocumentOf need bytes) (reading_of need bytes)
 unfolding reading_of
 reading_leads need bytes =
-    leads_after (IsDocument need) (with_names no_names (wanted NotJson [] (json_of bytes))) _
-    (λ top. document_leads need top)
+    leads_bind (λ top. json_of bytes ≡ Some top) (IsDocumentOf need bytes)
+    (with_names no_names (wanted NotJson [] (json_of bytes))) _
+    (leads_beside _ no_names _ (leads_wanted NotJson [] (json_of bytes))) (λ top stands.
+    leads_as (IsDocumentIn need top) (IsDocumentOf need bytes) (document_of need top) (λ doc is. record {
+      document = is.document;
+      version = record { top = top; stands = stands; says = is.says };
+    }) (said_leads need top))
 
-pub documents_are_networks : DocumentsAreNetworks
-documents_are_networks need bytes doc e = (reading_leads need bytes).at doc e
+pub documents_are_of_their_version : DocumentsAreNetworks
+documents_are_of_their_version need bytes doc e = (reading_leads need bytes).at doc e
+
+pub documents_are_networks : (need : Need) (bytes : List ℕ) (doc : DocumentData) → reading_of need bytes ≡ Ok doc
+    → IsDocument need doc
+documents_are_networks need bytes doc e = (documents_are_of_their_version need bytes doc e).document
 
 -- and so is every document that was returned
 pub networks_from : (need : Need) (bytes : List ℕ) (r : Result Document DocRefusal)

@@ -1,5 +1,7 @@
 -- What holds of every document that is read, and of every fault, in words that know nothing of the reading.
-use Rattle.std.specs.Prelude.{◌≡◌, ◌≢◌, ℕ, ◌≤◌, ◌<◌, ◌^◌, List, length, slice_get, true, Some, Ok, Err}
+use Rattle.std.specs.Prelude.{◌≡◌, ◌≢◌, ℕ, ◌≤◌, ◌<◌, ◌^◌, List, length, slice_get, codes, true, Some, option_and_then, Ok, Err}
+use Rattle.serde_json.specs.Data.{Data}
+use Rattle.serde_json.specs.Find.{get, as_number, as_u64}
 use Rattle.tn_said.specs.declared.fault.FaultKind.TheVariants.{TooLong}
 use Rattle.tn_base.specs.Firm.{Firm, HasOwnBundles, MayAbstain}
 use Rattle.tn_market.specs.Accepted.{AreAccepted}
@@ -13,6 +15,7 @@ use Rattle.tn_model.specs.Network.{IsNetwork, HaveAscendingPositions}
 use Rattle.tn_names.specs.Names.{IsNameList}
 use Rattle.tn_file.specs.declared.need.Need.{Need}
 use Rattle.tn_read_head.specs.Beside.{Stop, IsStop}
+use Rattle.tn_file.specs.Json.{json_of}
 use Rattle.tn_file.specs.Document.{DocumentData, ExtraData, nothing, arrangement, on_alone, outcome, edits, claim, is_accepted, reading_of}
 use Rattle.tn_read_claims.specs.Laws.{KeepsClaimLimits}
 use Rattle.tn_read_firms.specs.Laws.{IsListedFirm}
@@ -39,7 +42,7 @@ pub record IsDocument (need : Need) (doc : DocumentData) : Type 0 where
   pub trade_names : IsNameList doc.names.trades
   pub firms_named : length doc.names.firms ≡ length doc.firms
   pub trades_named : length doc.names.trades ≡ length doc.ends
-  -- no more firms and trades than the limits of its version allow, and firms within these limits
+  -- no more firms and trades than the limits of a version allow, and firms within these limits
   pub version : ℕ
   pub limits : Limits
   pub limits_are : limits_of version ≡ Some limits
@@ -60,10 +63,21 @@ pub record IsDocument (need : Need) (doc : DocumentData) : Type 0 where
   pub extra : IsExtra doc.firms doc.ends doc.extra
   pub extra_keeps : KeepsLimits limits doc.extra
 
+-- the bytes are JSON whose member `version` is this number
+pub record SaysVersion (bytes : List ℕ) (version : ℕ) : Type 0 where
+  pub top : Data
+  pub stands : json_of bytes ≡ Some top
+  pub says : option_and_then as_u64 (option_and_then as_number (get (codes "version") top)) ≡ Some version
+
+-- a document, within the limits of the version that its bytes say
+pub record IsDocumentOf (need : Need) (bytes : List ℕ) (doc : DocumentData) : Type 0 where
+  pub document : IsDocument need doc
+  pub version : SaysVersion bytes document.version
+
 -- every document that is read is one
 abbrev pub DocumentsAreNetworks : Type 0
 DocumentsAreNetworks = (need : Need) (bytes : List ℕ) (doc : DocumentData) → reading_of need bytes ≡ Ok doc
-    → IsDocument need doc
+    → IsDocumentOf need bytes doc
 
 -- wherever reading stops, its fault and the names beside it keep the rules of a stop
 abbrev pub FaultsAreSayable : Type 0

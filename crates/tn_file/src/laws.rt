@@ -2,9 +2,9 @@
 
 ghost use Rattle.tn_file.specs.Laws.{DocumentsAreNetworks, FaultsAreSayable, ReadingsAreNeverTooLong};
 
-/// Every document that is read is a network of firms with different names, within the limits of its version. Of each
-/// firm only bundles of its own trades are possible and the empty one is, later positions have later trades, and it
-/// meets exchange unless it is read raw. Worths are small, and smaller where there are many trades.
+/// Every document that is read is a network of firms with different names, within the limits of the version that its
+/// bytes say. Of each firm only bundles of its own trades are possible and the empty one is, later positions have later
+/// trades, and it meets exchange unless it is read raw. Worths are small, and smaller where there are many trades.
 pub fn documents_are_networks()
     ensures { DocumentsAreNetworks }
 {}
