@@ -15,7 +15,7 @@ use Rattle.tn_firm_laws.proofs.KeepLemmas.{option_map-some}
 use Rattle.tn_model.specs.declared.ends.Ends.{Ends}
 use Rattle.tn_said.specs.declared.holding.Holding.{Holding}
 use Rattle.tn_said.specs.declared.said.Said.TheVariants.{Firms}
-use Rattle.tn_model.specs.Network.{own, part, trades_of}
+use Rattle.tn_model.specs.Network.{own, part, trades_of, IsNetwork}
 use Rattle.tn_model.specs.Prices.{price_at}
 use Rattle.tn_market.specs.Equilibrium.{surplus_of, utility_at}
 use Rattle.tn_market.specs.Valued.{IsWorthAtMost}
@@ -30,8 +30,9 @@ use Rattle.tn_raw_answers.specs.Limits.{most_told_utility}
 use Rattle.tn_market.specs.Widths.{most_own, most_worth}
 use Rattle.tn_model.specs.Limits.{most_firms, most_number, most_price}
 use Rattle.tn_raw_answers.specs.Stands.{IsStandAtPrices}
-use Rattle.tn_raw_answers.specs.Firms.{is_content, TellsFirm, TellsHoldings}
-use Rattle.tn_raw_answers.proofs.ContentLemmas.{count_one}
+use Rattle.tn_raw_answers.specs.Firms.{is_content, TellsFirm, TellsFirms, TellsHoldings}
+use Rattle.tn_commands.proofs.CheckLemmas.{implied_by}
+use Rattle.tn_raw_answers.proofs.ContentLemmas.{content_is_equilibrium, count_one}
 
 -- ---- sizes
 
@@ -269,11 +270,11 @@ pub sum_small : (f limit : ℕ) (surplus : Option ℤ) → f ≤ most_firms → 
 sum_small f limit None few wide small = tt
 sum_small f limit (Some z) few wide small = smaller z (f * most_worth) limit (omega (arith, few, wide)) small
 
-pub all_told : (firms : List Firm) (trades : List Ends) (on : ℕ) (prices : ℕ
+all_are_told : (firms : List Firm) (trades : List Ends) (on : ℕ) (prices : ℕ
     → ℤ) (f : ℕ) (told : List Holding) (content : ℕ) (surplus : Option ℤ)
     → AreTold firms trades on prices f told content surplus → length firms ≤ f
-    → TellsHoldings firms trades (pos 1) on prices (Firms content told surplus)
-all_told firms trades on prices f told content surplus before end = record {
+    → TellsFirms firms trades (pos 1) on prices content told surplus
+all_are_told firms trades on prices f told content surplus before end = record {
   one_each = before.one_each ∙ (let most = before.inside in let same : f ≡ length firms = omega (arith, end, most) in
       same);
   each = before.each;
@@ -284,3 +285,16 @@ all_told firms trades on prices f told content surplus before end = record {
     whole : (o : Option ℤ) → IsSumBefore firms trades on f o → o ≡ surplus_of firms trades on
     whole None sum = sum
     whole (Some z) sum = all_added firms trades on f z sum end before.inside
+
+-- and where all are content, these are an equilibrium
+pub all_told : (firms : List Firm) (trades : List Ends) (on : ℕ) (prices : ℕ
+    → ℤ) (f : ℕ) (told : List Holding) (content : ℕ) (surplus : Option ℤ) → IsNetwork firms trades
+    → AreTold firms trades on prices f told content surplus → length firms ≤ f
+    → TellsHoldings firms trades on prices (Firms content told surplus)
+all_told firms trades on prices f told content surplus network before end =
+    let tells = all_are_told firms trades on prices f told content surplus before end in (
+      tells,
+      λ all. let equilibrium =
+          (content_is_equilibrium firms trades (pos 1) on prices content told surplus tells).0 all in
+          (equilibrium, implied_by firms trades on prices network equilibrium),
+    )

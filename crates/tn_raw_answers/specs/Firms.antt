@@ -1,6 +1,6 @@
 -- What is said of each firm in an arrangement: a set of trades with prices for all trades. The firms needn't meet
 -- exchange.
-use Rattle.std.specs.Prelude.{◌≡◌, ℕ, ℤ, ◌-ℤ◌, Bool, List, length, slice_get, Option, Some, option_map}
+use Rattle.std.specs.Prelude.{◌≡◌, ℕ, ℤ, pos, ◌-ℤ◌, Bool, List, length, slice_get, Option, Some, option_map}
 use Rattle.std.specs.List.{count_by}
 use Rattle.tn_base.specs.Firm.{Firm, IsBest}
 use Rattle.tn_model.specs.declared.ends.Ends.{Ends}
@@ -8,7 +8,8 @@ use Rattle.tn_said.specs.declared.holding.Holding.{Holding}
 use Rattle.tn_said.specs.declared.said.Said.{Said}
 use Rattle.tn_said.specs.declared.said.Said.TheVariants.{Firms}
 use Rattle.tn_model.specs.Network.{part, trades_of}
-use Rattle.tn_market.specs.Equilibrium.{utility_at, surplus_of}
+use Rattle.tn_market.specs.Equilibrium.{utility_at, surplus_of, IsEquilibrium}
+use Rattle.tn_commands.specs.Implied.{IsEfficientAndStable}
 use Rattle.tn_answer.specs.Rows.{is_nothing}
 
 -- what is said of firm f: its own bundle with worth and utility, a best bundle, its own where that is best, and what
@@ -37,8 +38,14 @@ pub record TellsFirms (firms : List Firm) (trades : List Ends) (scale : ℤ) (on
   pub counted : content ≡ count_by is_content told
   pub surplus_is : surplus ≡ surplus_of firms trades on
 
--- the answer of `firms`, none of another kind
-abbrev pub TellsHoldings : List Firm → List Ends → ℤ → ℕ → (ℕ → ℤ) → Said → Type 0
-TellsHoldings firms trades scale on prices (Firms content told surplus) =
-    TellsFirms firms trades scale on prices content told surplus
-TellsHoldings firms trades scale on prices said = ⊥
+-- where all firms are content, the arrangement is an equilibrium, so no set of trades has a greater surplus and no
+-- contracts block its outcome: whether the firms meet exchange or not
+abbrev pub ContentImplies : List Firm → List Ends → ℕ → (ℕ → ℤ) → ℕ → Type 0
+ContentImplies firms trades on prices content = content ≡ length firms
+    → IsEquilibrium firms trades (pos 1) on prices × IsEfficientAndStable firms trades on prices
+
+-- the answer of `firms`, at scale 1, and what follows of it; none of another kind
+abbrev pub TellsHoldings : List Firm → List Ends → ℕ → (ℕ → ℤ) → Said → Type 0
+TellsHoldings firms trades on prices (Firms content told surplus) =
+    TellsFirms firms trades (pos 1) on prices content told surplus × ContentImplies firms trades on prices content
+TellsHoldings firms trades on prices said = ⊥

@@ -138,8 +138,8 @@ fn sum(total: Option<i128>, worth: Option<i128>) -> Option<i128>
 }
 
 /// What each firm has in an arrangement, at scale 1, and what it would rather have, whether the firms meet exchange or
-/// not. There are at most 1,024 firms, and at most 1,024 trades and `64 * W`, which fit together, with one price each
-/// of at most 10^14 in size.
+/// not; where all are content, the arrangement is an equilibrium. There are at most 1,024 firms, and at most 1,024
+/// trades and `64 * W`, which fit together, with one price each of at most 10^14 in size.
 pub fn answer_firms<const W: usize>(
     alloc: Global,
     firms: &[RawFirm],
@@ -152,7 +152,7 @@ pub fn answer_firms<const W: usize>(
     requires network { IsNetwork (map raw_firm_of firms.now) ends.now }
     requires priced { length at.now.prices ≡ length ends.now }
     requires small { All (λ p. IsAtMost p most_price) at.now.prices }
-    ensures answer { IfOk result (TellsHoldings (map raw_firm_of firms.now) ends.now (pos 1) at.now.on
+    ensures answer { IfOk result (TellsHoldings (map raw_firm_of firms.now) ends.now at.now.on
         (price_at at.now.prices)) }
     ensures within { IfOk result IsWithinClaims }
 {

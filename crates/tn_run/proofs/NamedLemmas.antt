@@ -67,14 +67,14 @@ module _ (need : Need) (doc : DocumentData) (is : IsDocument need doc) where
   checked_named extra said checks = absurd checks
 
   -- the answer of `firms`
-  told_named : (on : ℕ) (prices : ℕ → ℤ) (said : Said) → TellsHoldings doc.firms doc.ends (pos 1) on prices said
+  told_named : (on : ℕ) (prices : ℕ → ℤ) (said : Said) → TellsHoldings doc.firms doc.ends on prices said
       → IsNamedAnswer doc.names said
   told_named on prices (FirmsIs content told surplus) tells = (
-    tells.one_each ∙ sym is.firms_named,
+    tells.0.one_each ∙ sym is.firms_named,
     (λ k d below.
-        let one_each = tells.one_each in
+        let one_each = tells.0.one_each in
         let firm = some_item doc.firms k (omega (arith, below, one_each)) in
-        let holding = tells.each k firm.0 (get_or told k d) firm.1 (slice_get-get_or told k d below) in
+        let holding = tells.0.each k firm.0 (get_or told k d) firm.1 (slice_get-get_or told k d below) in
         record {
           best = subst (All (IsNamed doc.names.trades)) (sym holding.best_is)
               (bundle_named need doc is k firm.0 holding.bundle firm.1);
@@ -88,12 +88,12 @@ module _ (need : Need) (doc : DocumentData) (is : IsDocument need doc) where
   firms_named (arrangement at) said tells = told_named at.on (price_at at.prices) said tells
   firms_named extra said tells = absurd tells
 
-  told_ascends : (on : ℕ) (prices : ℕ → ℤ) (said : Said) → TellsHoldings doc.firms doc.ends (pos 1) on prices said
+  told_ascends : (on : ℕ) (prices : ℕ → ℤ) (said : Said) → TellsHoldings doc.firms doc.ends on prices said
       → HasAscendingTrades said
   told_ascends on prices (FirmsIs content told surplus) tells = λ k d below.
-      let one_each = tells.one_each in
+      let one_each = tells.0.one_each in
       let firm = some_item doc.firms k (omega (arith, below, one_each)) in
-      let holding = tells.each k firm.0 (get_or told k d) firm.1 (slice_get-get_or told k d below) in
+      let holding = tells.0.each k firm.0 (get_or told k d) firm.1 (slice_get-get_or told k d below) in
       record {
         best = subst IsStrictlyIncreasing (sym holding.best_is)
             (bundle_ascends need doc is k firm.0 holding.bundle firm.1);

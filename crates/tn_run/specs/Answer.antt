@@ -39,9 +39,9 @@ ChecksExtra doc (arrangement at) said = ChecksArrangement doc.firms doc.ends (po
     × ((surplus : ℤ) → said ≡ Equilibrium surplus → IsEfficientAndStable doc.firms doc.ends at.on (price_at at.prices))
 ChecksExtra doc extra said = ⊥
 
--- what each firm has in the arrangement of a document, at scale 1, whether the firms meet exchange or not
+-- what each firm has in the arrangement of a document, whether the firms meet exchange or not
 abbrev pub FirmsExtra : DocumentData → ExtraData → Said → Type 0
-FirmsExtra doc (arrangement at) said = TellsHoldings doc.firms doc.ends (pos 1) at.on (price_at at.prices) said
+FirmsExtra doc (arrangement at) said = TellsHoldings doc.firms doc.ends at.on (price_at at.prices) said
 FirmsExtra doc extra said = ⊥
 
 -- the verdict on a document's outcome

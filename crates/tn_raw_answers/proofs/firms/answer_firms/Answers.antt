@@ -7,7 +7,6 @@ use Rattle.tn_model.specs.Limits.{most_number}
 use Rattle.tn_said.specs.declared.holding.Holding.{Holding}
 use Rattle.tn_said.specs.declared.said.Said.TheVariants.{Firms}
 use Rattle.tn_model.specs.Prices.{price_at}
-use Rattle.std.specs.Prelude.{pos}
 use Rattle.tn_price.proofs.JudgeLemmas.{firm_is}
 use Rattle.tn_raw_answers.specs.Firms.{TellsHoldings}
 use Rattle.tn_raw_answers.proofs.HoldingLemmas.{one_told, all_told, sum_small}
@@ -54,9 +53,9 @@ pub returns-clause-answer : goal.returns-clause-answer
 returns-clause-answer g c =
     let outside = c.loop-f-test.false in
     let as_many = length-map c.args.firms.now raw_firm_of in
-    subst (λ (told : List Holding). TellsHoldings (map raw_firm_of c.args.firms.now) c.args.ends.now (pos 1)
+    subst (λ (told : List Holding). TellsHoldings (map raw_firm_of c.args.firms.now) c.args.ends.now
     c.args.at.now.on (price_at c.args.at.now.prices) (Firms c.loop-f.content told c.loop-f.surplus))
     (sym c.from_vec.ensures)
     (all_told (map raw_firm_of c.args.firms.now) c.args.ends.now c.args.at.now.on (price_at c.args.at.now.prices)
-    c.loop-f.f c.loop-f.holdings.items c.loop-f.content c.loop-f.surplus
+    c.loop-f.f c.loop-f.holdings.items c.loop-f.content c.loop-f.surplus c.requires.network
     c.loop-f.invariant (omega (arith, outside, as_many)))
