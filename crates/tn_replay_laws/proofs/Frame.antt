@@ -23,7 +23,7 @@ use Rattle.tn_replay_laws.specs.Replayed.{with_claim}
 
 -- ---- members
 
-apart : (q k : List ℕ) → bytes_eq q k ≡ false → q ≡ k → ⊥
+pub apart : (q k : List ℕ) → bytes_eq q k ≡ false → q ≡ k → ⊥
 apart q k other same = true≢false (sym ((bytes_eq-Decides q k).1 same) ∙ other)
 
 pub claim_there : (value : Data) (members : Members)
@@ -52,7 +52,7 @@ module _ (kind : ObjectKind) where
   allows_at Greater k l d e ms allowed later = ap (λ b. allows kind l && b) later
 
   -- one more allowed member changes nothing
-  allows_put : (k : List ℕ) (d : Data) (ms : Members) → allows kind k ≡ true
+  pub allows_put : (k : List ℕ) (d : Data) (ms : Members) → allows kind k ≡ true
       → allows_all kind (put k d ms) ≡ allows_all kind ms
   allows_put k d no_members allowed = ap (λ b. b && true) allowed
   allows_put k d (member l e ms) allowed =

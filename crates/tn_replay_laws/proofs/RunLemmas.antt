@@ -66,7 +66,7 @@ replayed Support top doc said claims read answer within = supported top doc said
 replayed Test top doc said claims read answer within = tested top doc said read answer
 
 -- what bytes are read as, by their JSON value
-read_as : (need : Need) (bytes : List ℕ) (top : Data) → json_of bytes ≡ Some top
+pub read_as : (need : Need) (bytes : List ℕ) (top : Data) → json_of bytes ≡ Some top
     → reading_of need bytes ≡ document_of need top
 unfolding reading_of
 read_as need bytes top is = rw is
