@@ -6,3 +6,4 @@ pub mod PartLemmas
 pub mod DocumentLemmas
 pub mod RunLemmas
 pub mod LineLemmas
+pub mod RowLemmas

@@ -16,20 +16,20 @@ use Rattle.tn_answer.specs.declared.layout.Layout.{Layout}
 use Rattle.tn_answer.specs.declared.layout.Layout.TheVariants.{Object}
 use Rattle.tn_format_laws.specs.Lines.{AnswersAreOneLine, IsOneLine, is_page}
 
-abbrev is_other : ℕ → Bool
+abbrev pub is_other : ℕ → Bool
 is_other byte = not (byte == 10)
 
-abbrev is_unbroken : List ℕ → Bool
+abbrev pub is_unbroken : List ℕ → Bool
 is_unbroken bytes = list_all is_other bytes
 
-both_true : (a b : Bool) → a ≡ true → b ≡ true → (a && b) ≡ true
+pub both_true : (a b : Bool) → a ≡ true → b ≡ true → (a && b) ≡ true
 both_true a b p q = ap (λ c. c && b) p ∙ q
 
-each_true : (a b : Bool) → (a && b) ≡ true → (a ≡ true) × (b ≡ true)
+pub each_true : (a b : Bool) → (a && b) ≡ true → (a ≡ true) × (b ≡ true)
 each_true true b e = (refl, e)
 each_true false b e = absurd (true≢false (sym e))
 
-append_unbroken : (xs ys : List ℕ) → is_unbroken xs ≡ true → is_unbroken ys ≡ true → is_unbroken (xs ++ ys) ≡ true
+pub append_unbroken : (xs ys : List ℕ) → is_unbroken xs ≡ true → is_unbroken ys ≡ true → is_unbroken (xs ++ ys) ≡ true
 append_unbroken [] ys p q = q
 append_unbroken (x ∷ xs) ys p q =
     let parts = each_true (is_other x) (is_unbroken xs) p in
@@ -39,7 +39,7 @@ either_other : (b : Bool) (m n : ℕ) → is_other m ≡ true → is_other n ≡
 either_other true m n p q = p
 either_other false m n p q = q
 
-either_unbroken : (b : Bool) (xs ys : List ℕ) → is_unbroken xs ≡ true → is_unbroken ys ≡ true
+pub either_unbroken : (b : Bool) (xs ys : List ℕ) → is_unbroken xs ≡ true → is_unbroken ys ≡ true
     → is_unbroken (cond b xs ys) ≡ true
 either_unbroken true xs ys p q = p
 either_unbroken false xs ys p q = q
@@ -105,7 +105,7 @@ decimal_unbroken : (n : ℕ) → is_unbroken (decimal n) ≡ true
 unfolding digits
 decimal_unbroken n = onto_unbroken 64 n [] refl
 
-signed_unbroken : (z : ℤ) → is_unbroken (signed_decimal z) ≡ true
+pub signed_unbroken : (z : ℤ) → is_unbroken (signed_decimal z) ≡ true
 signed_unbroken (pos n) = decimal_unbroken n
 signed_unbroken (negsuc n) = decimal_unbroken (suc n)
 
@@ -145,7 +145,7 @@ mutual
 
 -- ---- answers
 
-all_other : (bytes : List ℕ) → is_unbroken bytes ≡ true → All (λ byte. byte ≢ 10) bytes
+pub all_other : (bytes : List ℕ) → is_unbroken bytes ≡ true → All (λ byte. byte ≢ 10) bytes
 all_other [] unbroken k d below = absurd (omega (arith, below))
 all_other (x ∷ xs) unbroken zero d below = λ feed.
     true≢false (sym (each_true (is_other x) (is_unbroken xs) unbroken).0 ∙ ap not (eq-eqb x 10 feed))

@@ -1,0 +1,245 @@
+-- A row is a line: no field of it has a line feed, since names have none.
+use Rattle.std.proofs.Common.{◌≡◌, ◌≢◌, ℕ, zero, suc, ℤ, Bool, true, false, cond, ◌==◌, List, [], ◌∷◌, ◌++◌, length, map, All, Option, Some, None, slice_get, refl, sym, ap, ◌∙◌, subst, arith, inl, inr, true≢false, ne_eqb}
+use Rattle.std.specs.Prelude.{flat_map, not, unwrap_or}
+use Rattle.std.specs.Fmt.{signed_decimal}
+use Rattle.std.specs.List.{list_all}
+use Rattle.std.proofs.lemmas.Bool.{cases_eq}
+use Rattle.std.proofs.lemmas.List.{append_assoc, length-map}
+use Rattle.csv.specs.Writing.{default_writer, escaped, field_text, fields_text, is_blank, needs_quotes, quoted, row_body}
+use Rattle.tn_model.specs.declared.ends.Ends.{Ends}
+use Rattle.tn_model.specs.declared.range.Range.{Range}
+use Rattle.tn_said.specs.declared.holding.Holding.{Holding}
+use Rattle.tn_said.specs.declared.said.Said.{Said}
+use Rattle.tn_said.specs.declared.said.Said.TheVariants.{Usage, ReadFault, NoMemory, Fault, Equilibrium, Better, Impossible, Accepted, ExchangeFails, Supported, Cycle, Solved, Drill, Ranges, Session, Drops, Completes, Blocks, Valid, Invalid, Cases, Page, Firms}
+use Rattle.tn_names.specs.Names.{IsNameList, NameLists, is_between, is_name_byte, most_letters}
+use Rattle.tn_answer.specs.AnswerText.{answer_form, answer_line, answer_table, text_of}
+use Rattle.tn_answer.specs.Rows.{bound_text, bundle_text, buyer_text, deal_row, each_from, firm_row, flag_text, is_listed, is_nothing, name_text, price_row, range_row, rows_text, seller_text}
+use Rattle.tn_answer.specs.declared.layout.Layout.{Layout}
+use Rattle.tn_answer.specs.declared.layout.Layout.TheVariants.{Object, Rows, WideRows}
+use Rattle.tn_format_laws.specs.Lines.{AreLines, RowsAreLines}
+use Rattle.tn_format_laws.proofs.LineLemmas.{all_other, append_unbroken, both_true, each_true, either_unbroken, is_other, is_unbroken, signed_unbroken}
+
+abbrev are_unbroken : List (List ℕ) → Bool
+are_unbroken fields = list_all is_unbroken fields
+
+-- ---- the text of a row
+
+escaped_unbroken : (field : List ℕ) → is_unbroken field ≡ true → is_unbroken (escaped default_writer field) ≡ true
+unfolding escaped
+escaped_unbroken [] unbroken = refl
+escaped_unbroken (b ∷ rest) unbroken =
+    let parts = each_true (is_other b) (is_unbroken rest) unbroken in
+    let later = both_true (is_other b) _ parts.0 (escaped_unbroken rest parts.1) in
+    either_unbroken (b == 34) (34 ∷ b ∷ escaped default_writer rest) (b ∷ escaped default_writer rest) later later
+
+field_unbroken : (field : List ℕ) → is_unbroken field ≡ true → is_unbroken (field_text default_writer field) ≡ true
+field_unbroken field unbroken =
+    either_unbroken (needs_quotes default_writer field) (quoted default_writer field) field
+    (append_unbroken (escaped default_writer field) (34 ∷ []) (escaped_unbroken field unbroken) refl) unbroken
+
+fields_unbroken : (fields : List (List ℕ)) → are_unbroken fields ≡ true
+    → is_unbroken (fields_text default_writer fields) ≡ true
+unfolding fields_text
+fields_unbroken [] are = refl
+fields_unbroken (field ∷ rest) are =
+    let parts = each_true (is_unbroken field) (are_unbroken rest) are in
+    append_unbroken (field_text default_writer field) (fields_text default_writer rest)
+    (field_unbroken field parts.0) (fields_unbroken rest parts.1)
+
+body_unbroken : (fields : List (List ℕ)) → are_unbroken fields ≡ true
+    → is_unbroken (row_body default_writer fields) ≡ true
+body_unbroken [] are = refl
+body_unbroken (field ∷ rest) are =
+    let parts = each_true (is_unbroken field) (are_unbroken rest) are in
+    append_unbroken (field_text default_writer field) (fields_text default_writer rest)
+    (field_unbroken field parts.0) (fields_unbroken rest parts.1)
+
+-- what stands for a row that shows nothing
+abbrev blank_of : List (List ℕ) → List ℕ
+blank_of fields = cond (is_blank default_writer fields) (34 ∷ 34 ∷ []) []
+
+abbrev line_of : List (List ℕ) → List ℕ
+line_of fields = row_body default_writer fields ++ blank_of fields
+
+line_unbroken : (fields : List (List ℕ)) → are_unbroken fields ≡ true → is_unbroken (line_of fields) ≡ true
+line_unbroken fields are =
+    append_unbroken (row_body default_writer fields) (blank_of fields) (body_unbroken fields are)
+    (either_unbroken (is_blank default_writer fields) (34 ∷ 34 ∷ []) [] refl refl)
+
+text_is : (rows : List (List (List ℕ))) → rows_text rows ≡ flat_map (λ line. line ++ 10 ∷ []) (map line_of rows)
+text_is [] = refl
+text_is (row ∷ rows) =
+    ap (λ l. l ++ rows_text rows) (sym (append_assoc (row_body default_writer row) (blank_of row) (10 ∷ [])))
+    ∙ ap (λ l. (line_of row ++ 10 ∷ []) ++ l) (text_is rows)
+
+lines_unbroken : (rows : List (List (List ℕ))) → list_all are_unbroken rows ≡ true
+    → All (λ line. All (λ byte. byte ≢ 10) line) (map line_of rows)
+lines_unbroken [] are k d below = absurd (omega (arith, below))
+lines_unbroken (row ∷ rows) are zero d below =
+    all_other (line_of row) (line_unbroken row (each_true (are_unbroken row) (list_all are_unbroken rows) are).0)
+lines_unbroken (row ∷ rows) are (suc k) d below =
+    lines_unbroken rows (each_true (are_unbroken row) (list_all are_unbroken rows) are).1 k d (omega (arith, below))
+
+rows_are_lines_of : (rows : List (List (List ℕ))) → list_all are_unbroken rows ≡ true
+    → AreLines (rows_text rows) (length rows)
+rows_are_lines_of rows are = record {
+  lines = map line_of rows;
+  counted = length-map rows line_of;
+  are = text_is rows;
+  unbroken = lines_unbroken rows are;
+}
+
+-- ---- fields
+
+name_byte_other : (b : ℕ) → is_name_byte b ≡ true → is_other b ≡ true
+name_byte_other b named = elim (cases_eq b 10) [
+  | inl feed ↦ absurd (true≢false (sym (subst (λ c. is_name_byte c ≡ true) feed named)))
+  | inr other ↦ ap not (ne_eqb b 10 other)
+]
+
+bytes_unbroken : (bytes : List ℕ) → list_all is_name_byte bytes ≡ true → is_unbroken bytes ≡ true
+bytes_unbroken [] named = refl
+bytes_unbroken (b ∷ rest) named =
+    let parts = each_true (is_name_byte b) (list_all is_name_byte rest) named in
+    both_true (is_other b) (is_unbroken rest) (name_byte_other b parts.0) (bytes_unbroken rest parts.1)
+
+flag_unbroken : (flag : Bool) → is_unbroken (flag_text flag) ≡ true
+flag_unbroken true = refl
+flag_unbroken false = refl
+
+bound_unbroken : (bound : Option ℤ) → is_unbroken (bound_text bound) ≡ true
+bound_unbroken None = refl
+bound_unbroken (Some z) = signed_unbroken z
+
+module _ (list : List (List ℕ)) (is : IsNameList list) where
+  found_unbroken : (k : ℕ) (found : Option (List ℕ)) → slice_get list k ≡ found
+      → is_unbroken (unwrap_or found []) ≡ true
+  found_unbroken k None e = refl
+  found_unbroken k (Some name) e =
+      bytes_unbroken name (each_true (is_between 1 most_letters (length name)) (list_all is_name_byte name)
+      (is.named k name e)).1
+
+  name_unbroken : (k : ℕ) → is_unbroken (name_text list k) ≡ true
+  name_unbroken k = found_unbroken k (slice_get list k) refl
+
+  rest_unbroken : (ks : List ℕ) → is_unbroken (flat_map (λ j. 32 ∷ name_text list j) ks) ≡ true
+  rest_unbroken [] = refl
+  rest_unbroken (k ∷ ks) =
+      append_unbroken (name_text list k) (flat_map (λ j. 32 ∷ name_text list j) ks) (name_unbroken k)
+      (rest_unbroken ks)
+
+  bundle_unbroken : (ks : List ℕ) → is_unbroken (bundle_text list ks) ≡ true
+  bundle_unbroken [] = refl
+  bundle_unbroken (k ∷ ks) =
+      append_unbroken (name_text list k) (flat_map (λ j. 32 ∷ name_text list j) ks) (name_unbroken k)
+      (rest_unbroken ks)
+
+  seller_unbroken : (trade : Option Ends) → is_unbroken (seller_text list trade) ≡ true
+  seller_unbroken None = refl
+  seller_unbroken (Some trade) = name_unbroken trade.seller
+
+  buyer_unbroken : (trade : Option Ends) → is_unbroken (buyer_text list trade) ≡ true
+  buyer_unbroken None = refl
+  buyer_unbroken (Some trade) = name_unbroken trade.buyer
+
+-- ---- tables
+
+each_row_unbroken : {A : Type 0} (row : ℕ → A → List (List ℕ)) → ((k : ℕ) (x : A) → are_unbroken (row k x) ≡ true)
+    → (k : ℕ) (xs : List A) → list_all are_unbroken (each_from row k xs) ≡ true
+each_row_unbroken row one k [] = refl
+each_row_unbroken row one k (x ∷ xs) =
+    both_true (are_unbroken (row k x)) _ (one k x) (each_row_unbroken row one (suc k) xs)
+
+-- the rows of a table, where there is one
+abbrev HasUnbrokenRows : Option (List (List (List ℕ))) → Type 0
+HasUnbrokenRows None = Unit {0}
+HasUnbrokenRows (Some rows) = list_all are_unbroken rows ≡ true
+
+module _ (names : NameLists) (firms : IsNameList names.firms) (trades : IsNameList names.trades) where
+  price_unbroken : (on : List ℕ) (k : ℕ) (price : ℤ) → are_unbroken (price_row names on k price) ≡ true
+  price_unbroken on k price =
+      both_true (is_unbroken (name_text names.trades k)) _ (name_unbroken names.trades trades k)
+      (both_true (is_unbroken (flag_text (is_listed on k))) _ (flag_unbroken (is_listed on k))
+      (both_true (is_unbroken (signed_decimal price)) true (signed_unbroken price) refl))
+
+  -- the fields that deals and ranges begin with
+  ends_unbroken : (on : List ℕ) (ends : List Ends) (k : ℕ) (rest : List (List ℕ)) → are_unbroken rest ≡ true
+      → are_unbroken (name_text names.trades k ∷ seller_text names.firms (slice_get ends k)
+      ∷ buyer_text names.firms (slice_get ends k) ∷ flag_text (is_listed on k) ∷ rest) ≡ true
+  ends_unbroken on ends k rest later =
+      both_true (is_unbroken (name_text names.trades k)) _ (name_unbroken names.trades trades k)
+      (both_true (is_unbroken (seller_text names.firms (slice_get ends k))) _
+      (seller_unbroken names.firms firms (slice_get ends k))
+      (both_true (is_unbroken (buyer_text names.firms (slice_get ends k))) _
+      (buyer_unbroken names.firms firms (slice_get ends k))
+      (both_true (is_unbroken (flag_text (is_listed on k))) _ (flag_unbroken (is_listed on k)) later)))
+
+  deal_unbroken : (on : List ℕ) (ends : List Ends) (k : ℕ) (price : ℤ)
+      → are_unbroken (deal_row names on ends k price) ≡ true
+  deal_unbroken on ends k price =
+      ends_unbroken on ends k (signed_decimal price ∷ [])
+      (both_true (is_unbroken (signed_decimal price)) true (signed_unbroken price) refl)
+
+  range_unbroken : (on : List ℕ) (ends : List Ends) (k : ℕ) (range : Range)
+      → are_unbroken (range_row names on ends k range) ≡ true
+  range_unbroken on ends k range =
+      ends_unbroken on ends k (bound_text range.low ∷ bound_text range.high ∷ [])
+      (both_true (is_unbroken (bound_text range.low)) _ (bound_unbroken range.low)
+      (both_true (is_unbroken (bound_text range.high)) true (bound_unbroken range.high) refl))
+
+  holding_unbroken : (k : ℕ) (holding : Holding) → are_unbroken (firm_row names k holding) ≡ true
+  holding_unbroken k holding =
+      both_true (is_unbroken (name_text names.firms k)) _ (name_unbroken names.firms firms k)
+      (both_true (is_unbroken (flag_text (is_nothing holding.gain))) _ (flag_unbroken (is_nothing holding.gain))
+      (both_true (is_unbroken (bound_text holding.worth)) _ (bound_unbroken holding.worth)
+      (both_true (is_unbroken (bound_text holding.utility)) _ (bound_unbroken holding.utility)
+      (both_true (is_unbroken (signed_decimal holding.best_utility)) _ (signed_unbroken holding.best_utility)
+      (both_true (is_unbroken (bound_text holding.gain)) _ (bound_unbroken holding.gain)
+      (both_true (is_unbroken (bundle_text names.trades holding.has)) _
+      (bundle_unbroken names.trades trades holding.has)
+      (both_true (is_unbroken (bundle_text names.trades holding.best)) true
+      (bundle_unbroken names.trades trades holding.best) refl)))))))
+
+  table_unbroken : (said : Said) (layout : Layout) → HasUnbrokenRows (answer_table names said layout)
+  table_unbroken Usage layout = tt
+  table_unbroken ReadFault layout = tt
+  table_unbroken NoMemory layout = tt
+  table_unbroken (Fault fault) layout = tt
+  table_unbroken (Equilibrium surplus) layout = tt
+  table_unbroken (Better firm bundle gain) layout = tt
+  table_unbroken (Impossible firm) layout = tt
+  table_unbroken Accepted layout = tt
+  table_unbroken (ExchangeFails firm x y at) layout = tt
+  table_unbroken (Supported on prices ends) Object = tt
+  table_unbroken (Supported on prices ends) Rows =
+      each_row_unbroken (deal_row names on ends) (deal_unbroken on ends) 0 prices
+  table_unbroken (Supported on prices ends) WideRows = tt
+  table_unbroken (Cycle nodes cost) layout = tt
+  table_unbroken (Solved on prices surplus ends) Object = tt
+  table_unbroken (Solved on prices surplus ends) Rows =
+      each_row_unbroken (price_row names on) (price_unbroken on) 0 prices
+  table_unbroken (Solved on prices surplus ends) WideRows =
+      each_row_unbroken (deal_row names on ends) (deal_unbroken on ends) 0 prices
+  table_unbroken (Drill size start firms surplus) layout = tt
+  table_unbroken (Ranges on ranges ends) Object = tt
+  table_unbroken (Ranges on ranges ends) Rows =
+      each_row_unbroken (range_row names on ends) (range_unbroken on ends) 0 ranges
+  table_unbroken (Ranges on ranges ends) WideRows = tt
+  table_unbroken (Session edits) layout = tt
+  table_unbroken (Drops firm keeps gain over) layout = tt
+  table_unbroken (Completes prices over) layout = tt
+  table_unbroken (Blocks contracts over) layout = tt
+  table_unbroken Valid layout = tt
+  table_unbroken (Invalid reason) layout = tt
+  table_unbroken (Cases count failed) layout = tt
+  table_unbroken (Page page) layout = tt
+  table_unbroken (Firms content told surplus) Object = tt
+  table_unbroken (Firms content told surplus) Rows =
+      each_row_unbroken (firm_row names) holding_unbroken 0 told
+  table_unbroken (Firms content told surplus) WideRows = tt
+
+pub rows_are_lines : RowsAreLines
+unfolding answer_line
+rows_are_lines layout names said rows firms trades is =
+    subst (λ found. AreLines (text_of found (answer_form names said)) (length rows)) (sym is)
+    (rows_are_lines_of rows (subst HasUnbrokenRows is (table_unbroken names firms trades said layout)))
