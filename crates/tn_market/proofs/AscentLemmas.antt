@@ -310,3 +310,9 @@ settled firm found next laws valued tries no_gain =
       single = λ other is. let h = near.single other is in omega (arith, ints, h, no_gain);
       pair = λ k other inside is. let h = near.pair k other inside is in omega (arith, ints, h, no_gain);
     })
+
+-- ---- worths that are asked for
+
+-- one row more of as many worths
+pub one_row_more : (rows n : ℕ) → (rows + 1) * n ≡ rows * n + n
+one_row_more rows n = grind arith

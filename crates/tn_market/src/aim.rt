@@ -2,9 +2,9 @@
 //! until none gains. For a firm that meets exchange it then stands at a best bundle, wherever it began (Murota,
 //! Discrete Convex Analysis, 2003, on the maximisation of M-natural concave functions).
 
-ghost use Rattle.std.specs.Prelude.{◌≡◌, ◌*◌, ◌<◌, ◌≤◌, ◌≤ℤ◌, ◌+ℤ◌, ◌*ℤ◌, pos, if◌then◌else◌, length, IfSome, Some};
+ghost use Rattle.std.specs.Prelude.{◌≡◌, ◌+◌, ◌*◌, ◌<◌, ◌≤◌, ◌↔◌, ℤ, ◌≤ℤ◌, ◌+ℤ◌, ◌*ℤ◌, pos, if◌then◌else◌, length, IfSome, IsTrue, Some, true, false};
 ghost use Rattle.tn_base.specs.Arcs.{IsAtMost};
-ghost use Rattle.tn_base.specs.Sets.{has, minus, sum_over};
+ghost use Rattle.tn_base.specs.Sets.{has, minus, size, sum_over};
 ghost use Rattle.tn_base.specs.Firm.{IsBest};
 ghost use Rattle.tn_market.specs.Ascent.{aimed, IsAim, IsValued, StaysAt, TriesOne, TriesOthers, TriesNearby};
 ghost use Rattle.tn_model.specs.Prices.{price_at};
@@ -81,6 +81,7 @@ impl<V: Valuation> Aim<'_, V> {
         ensures value { result
             ≡ (aimed self.now.allowed self.now.scale self.now.gains.now (V.firm self.now.firm.now)).worth x }
         ensures small { IfSome result (λ value. IsAtMost value most_aimed) }
+        ensures asked { steps.new ≤ steps.old + 1 }
     {
         if x.minus(self.allowed) != Bundle::empty() {
             return None;
@@ -122,6 +123,7 @@ impl<V: Valuation> Aim<'_, V> {
             (V.firm self.now.firm.now)).worth x others
             (V.firm self.now.firm.now).count best result }
         ensures room { length worths.new ≡ length worths.old }
+        ensures asked { steps.new ≡ steps.old + size others }
     {
         self.firm.row(x, others, worths, steps);
         let mut best = best;
@@ -134,12 +136,14 @@ impl<V: Valuation> Aim<'_, V> {
     }
 
     /// The best of a bundle and those with one or two of its positions toggled: by the row of the bundle, and by the
-    /// row of each bundle with one toggled.
+    /// row of each bundle with one toggled. It asks for at most a worth for each two positions, and one for each alone.
     fn step(&self, from: &BundleValue, steps: &mut Steps<V::Mark>) -> BundleValue
         requires within { minus from.now.bundle self.now.allowed ≡ 0 }
-        ensures { TriesNearby (aimed self.now.allowed self.now.scale self.now.gains.now
+        ensures tried { TriesNearby (aimed self.now.allowed self.now.scale self.now.gains.now
             (V.firm self.now.firm.now)).worth
             from.now.bundle (V.firm self.now.firm.now).count from.now result }
+        ensures asked { steps.new ≤ steps.old + (V.firm self.now.firm.now).count
+            + (V.firm self.now.firm.now).count * (V.firm self.now.firm.now).count }
     {
         let mut singles = [None; MOST_OWN];
         self.firm
@@ -156,6 +160,33 @@ impl<V: Valuation> Aim<'_, V> {
             }
         }
         best
+    }
+
+    /// Whether a possible bundle with its value is best: whether one step from it gains nothing.
+    fn gains_nothing_at(&self, own: &BundleValue, steps: &mut Steps<V::Mark>) -> bool
+        requires valued { IsValued (aimed self.now.allowed self.now.scale self.now.gains.now
+            (V.firm self.now.firm.now)).worth own.now }
+        ensures best { result ≡ true → IsBest (aimed self.now.allowed self.now.scale self.now.gains.now
+            (V.firm self.now.firm.now)).worth own.now.bundle own.now.value }
+        ensures bettered { (value : ℤ) → result ≡ false → IsBest (aimed self.now.allowed self.now.scale
+            self.now.gains.now (V.firm self.now.firm.now)).worth own.now.bundle value → ⊥ }
+        ensures asked { steps.new ≤ steps.old + (V.firm self.now.firm.now).count
+            + (V.firm self.now.firm.now).count * (V.firm self.now.firm.now).count }
+    {
+        self.step(own, steps).value <= own.value
+    }
+
+    /// Whether a bundle is best. It asks for at most a worth for each two places, where none is a place too.
+    pub fn is_best(&self, x: Bundle, steps: &mut Steps<V::Mark>) -> bool
+        ensures best { IsTrue result ↔ ((value : ℤ) × IsBest (aimed self.now.allowed self.now.scale self.now.gains.now
+            (V.firm self.now.firm.now)).worth x value) }
+        ensures asked { steps.new ≤ steps.old + ((V.firm self.now.firm.now).count + 1)
+            * ((V.firm self.now.firm.now).count + 1) }
+    {
+        match self.value(x, steps) {
+            Some(value) => self.gains_nothing_at(&BundleValue { bundle: x, value }, steps),
+            None => false,
+        }
     }
 
     /// A best bundle with its value, found from a bundle at hand: that one wherever it is best.

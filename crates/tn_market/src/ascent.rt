@@ -1,10 +1,10 @@
 //! The search for a best bundle among those that have all wanted positions and no forbidden one, and that from a bundle
 //! at hand.
 
-ghost use Rattle.std.specs.Prelude.{◌≡◌, ◌+◌, ◌^◌, ◌*◌, ◌<◌, ◌≤◌, pos, ◌+ℤ◌, ◌≤ℤ◌, if◌then◌else◌, length, All};
+ghost use Rattle.std.specs.Prelude.{◌≡◌, ◌+◌, ◌^◌, ◌*◌, ◌<◌, ◌≤◌, ◌↔◌, ℤ, pos, ◌+ℤ◌, ◌≤ℤ◌, if◌then◌else◌, length, All, IsTrue, true};
 ghost use Rattle.tn_base.specs.Arcs.{IsAtMost};
-ghost use Rattle.tn_base.specs.Sets.{meet, union};
-ghost use Rattle.tn_base.specs.Firm.{utility};
+ghost use Rattle.tn_base.specs.Sets.{meet, set_of, union};
+ghost use Rattle.tn_base.specs.Firm.{IsBest, utility};
 ghost use Rattle.tn_market.specs.Ascent.{AreGains, payment_of};
 ghost use Rattle.tn_market.specs.Best.{GivesBest};
 ghost use Rattle.tn_market.specs.BestFrom.{IsBestFrom};
@@ -31,6 +31,19 @@ fn gain(side: Side, price: i128, wanted: bool) -> i128
         Side::Sell => price,
     };
     if wanted { payment + BONUS } else { payment }
+}
+
+/// The bundle of the first positions.
+#[tactic(auto, unfolding(tn_base::specs::Sets::set_of))]
+pub fn all_positions(n: u32) -> Bundle
+    requires { n ≤ most_own }
+    ensures { result ≡ set_of (λ k. true) n }
+{
+    let mut all = Bundle::empty();
+    for k in 0..n {
+        all = all.toggle(k);
+    }
+    all
 }
 
 /// What the search counts for each position.
@@ -122,4 +135,34 @@ pub fn best_by_ascent_from<V: Valuation>(
     };
     let found = aim.climb(from, steps);
     (found.bundle, found.value)
+}
+
+/// Whether a bundle is best at these prices, by one step of the ascent from it. Each worth that it asks counts on
+/// `steps`: at most one for each two places, where none is a place too. It takes no memory. Prices, scale and firm are
+/// within the limits of `best_by_ascent`.
+pub fn is_best_by_step<V: Valuation>(
+    firm: &V,
+    own: Bundle,
+    scale: i128,
+    prices: &[i128],
+    steps: &mut Steps<V::Mark>,
+) -> bool
+    requires priced { length prices.now ≡ (V.firm firm.now).count }
+    requires small_prices { All (λ p. IsAtMost p most_asked_price) prices.now }
+    requires scaled { pos 1 ≤ℤ scale }
+    requires small_scale { scale ≤ℤ pos most_scale }
+    requires few_trades { (V.firm firm.now).count ≤ most_own }
+    requires small_worths { V.limit firm.now ≤ most_worth }
+    ensures best { IsTrue result
+        ↔ ((value : ℤ) × IsBest (utility scale (price_at prices.now) (V.firm firm.now)) own value) }
+    ensures asked { steps.new ≤ steps.old + ((V.firm firm.now).count + 1) * ((V.firm firm.now).count + 1) }
+{
+    let gains = gains(firm, Bundle::empty(), prices);
+    let aim = Aim {
+        firm,
+        allowed: all_positions(firm.trades()),
+        scale,
+        gains: &gains,
+    };
+    aim.is_best(own, steps)
 }

@@ -13,7 +13,7 @@ mod oracle;
 mod party;
 mod valuation;
 
-pub use ascent::{best_by_ascent, best_by_ascent_from};
+pub use ascent::{all_positions, best_by_ascent, best_by_ascent_from, is_best_by_step};
 pub use laws::{bundles_are_listed, positions_have_one_trade};
 pub use levied::Levied;
 pub use market::Market;

@@ -1,5 +1,5 @@
 -- The judgement of an arrangement, firm by firm.
-use Rattle.std.proofs.Common.{◌≡◌, ◌≢◌, ℕ, zero, suc, ◌+◌, ◌*◌, ◌^◌, ◌<◌, ◌≤◌, if◌then◌else◌, List, [], ◌∷◌, length, map, take, slice_get, Some, Option, option_map, refl, sym, ap, ◌∙◌, subst, arith, inl, inr, ℤ, pos, ◌+ℤ◌, ◌-ℤ◌, neg_ℤ, ◌*ℤ◌}
+use Rattle.std.proofs.Common.{Bool, IsTrue, ◌↔◌, ◌≡◌, ◌≢◌, ℕ, zero, suc, ◌+◌, ◌*◌, ◌^◌, ◌<◌, ◌≤◌, if◌then◌else◌, List, [], ◌∷◌, length, map, take, slice_get, Some, Option, option_map, refl, sym, ap, ◌∙◌, subst, arith, inl, inr, ℤ, pos, ◌+ℤ◌, ◌-ℤ◌, neg_ℤ, ◌*ℤ◌}
 use Rattle.std.specs.List.{All}
 use Rattle.std.proofs.lemmas.Int.{ints, by_lt_z}
 use Rattle.std.proofs.lemmas.Bool.{cases_eq}
@@ -20,6 +20,7 @@ use Rattle.tn_model.specs.Prices.{price_at}
 use Rattle.tn_model.specs.Limits.{most_number}
 use Rattle.tn_model.specs.Network.{own, part}
 use Rattle.tn_market.specs.Equilibrium.{prices_at, utility_at, HasBest, IsEquilibrium, surplus_from, surplus_of}
+use Rattle.tn_market.specs.Graph.{graph_worths}
 use Rattle.tn_market.specs.Judged.{AreBestBefore, IsFirstImpossible, IsFirstBettered}
 use Rattle.tn_market.specs.Widths.{most_market_firms, most_own, most_utility, most_worth}
 use Rattle.tn_price.specs.declared.firm_verdict.FirmVerdict.{FirmVerdict}
@@ -143,6 +144,24 @@ stands_there firm_of firms trades scale on prices f n own list standing v is cou
     (subst (λ (x : ℕ). Stands (firm_of v).worth (utility scale (price_at (take n list)) (firm_of v)) x standing) own_is
     stands))
 
+-- and whether it has a best bundle there is whether it has one in the arrangement
+pub content_there : {V : Type 0} (firm_of : V → Firm) (firms : List V) (trades : List Ends) (scale : ℤ) (on : ℕ)
+    (prices : ℕ → ℤ) (f n own : ℕ) (list : List ℤ) (content : Bool) (v : V) → slice_get firms f ≡ Some v
+    → n ≡ (firm_of v).count → own ≡ part trades f (firm_of v).count on → AreOwnPrices trades prices f n list
+    → (IsTrue content ↔ ((value : ℤ) × IsBest (utility scale (price_at (take n list)) (firm_of v)) own value))
+    → (firm : Firm) → slice_get (map firm_of firms) f ≡ Some firm
+    → IsTrue content ↔ HasBest trades scale on prices f firm
+content_there firm_of firms trades scale on prices f n own list content v is counted own_is listed decided firm there =
+    let same : firm_of v ≡ firm = same_Some _ _ (sym (firm_is firm_of firms f v is) ∙ there) in
+    let as_listed = utility_there trades scale prices f n list (firm_of v) counted listed in
+    let listed_of = utility scale (price_at (take n list)) (firm_of v) in
+    let value_of = utility_at trades scale prices f (firm_of v) in
+    subst (λ (x : Firm). IsTrue content ↔ HasBest trades scale on prices f x) same
+    (subst (λ (x : ℕ). IsTrue content ↔ ((value : ℤ) × IsBest value_of x value)) own_is (
+      (λ yes. ((decided.0 yes).0, best-same listed_of value_of as_listed own (decided.0 yes).0 (decided.0 yes).1)),
+      (λ best. decided.1 (best.0, best-same value_of listed_of (λ x. sym (as_listed x)) own best.0 best.1)),
+    ))
+
 pub part_within : (trades : List Ends) (f n on own : ℕ) → own ≡ part trades f n on → own < 2 ^ n
 part_within trades f n on x is = subst (λ (y : ℕ). y < 2 ^ n) (sym is) (set_of_within (λ k. has on (own trades f k)) n)
 
@@ -161,19 +180,24 @@ pub record AreJudged (firms : List Firm) (trades : List Ends) (scale : ℤ) (on 
   pub small : IsAtMost surplus (f * most_worth)
 
 -- with one more firm
+pub one_best : (firms : List Firm) (trades : List Ends) (scale : ℤ) (on : ℕ) (prices : ℕ → ℤ) (f : ℕ) (firm : Firm)
+    → AreBestBefore firms trades scale on prices f → slice_get firms f ≡ Some firm
+    → HasBest trades scale on prices f firm → AreBestBefore firms trades scale on prices (f + 1)
+one_best firms trades scale on prices f firm before is best = λ g other below other_is. elim (cases_eq g f) [
+  | inl e ↦
+      let same : firm ≡ other = same_Some _ _ (sym is ∙ ap (slice_get firms) (sym e) ∙ other_is) in
+      subst (λ (x : Firm). HasBest trades scale on prices g x) same
+      (subst (λ (h : ℕ). HasBest trades scale on prices h firm) (sym e) best)
+  | inr d ↦ before g other (omega (arith, below, d)) other_is
+]
+
 pub one_judged : (firms : List Firm) (trades : List Ends) (scale : ℤ) (on : ℕ) (prices : ℕ
     → ℤ) (f : ℕ) (surplus amount : ℤ) (firm : Firm)
     → AreJudged firms trades scale on prices f surplus → slice_get firms f ≡ Some firm
     → IsBestWorth firm.worth (utility_at trades scale prices f firm) (part trades f firm.count on) amount
     → AreJudged firms trades scale on prices (f + 1) (surplus +ℤ amount)
 one_judged firms trades scale on prices f surplus amount firm judged is best = record {
-  before = λ g other below other_is. elim (cases_eq g f) [
-    | inl e ↦
-        let same : firm ≡ other = same_Some _ _ (sym is ∙ ap (slice_get firms) (sym e) ∙ other_is) in
-        subst (λ (x : Firm). HasBest trades scale on prices g x) same
-        (subst (λ (h : ℕ). HasBest trades scale on prices h firm) (sym e) (best.value, best.best))
-    | inr d ↦ judged.before g other (omega (arith, below, d)) other_is
-  ];
+  before = one_best firms trades scale on prices f firm judged.before is (best.value, best.best);
   sum = sum_more firms trades on f surplus amount firm judged.sum is best.worth_is;
   small = add _ _ judged.small best.small;
 }
@@ -272,3 +296,11 @@ gain_is most value small_most small_value = omega (
   small_value.low,
   small_value.high,
 )
+
+-- ---- worths that are asked for
+
+-- the firms before a place are asked for no more worths than all
+pub worths_within : (k : ℕ) (firms : List Firm) → graph_worths (take k firms) ≤ graph_worths firms
+worths_within zero firms = omega arith
+worths_within (suc k) [] = omega arith
+worths_within (suc k) (firm ∷ firms) = let rest = worths_within k firms in omega (arith, rest)

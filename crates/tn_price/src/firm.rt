@@ -1,8 +1,7 @@
 //! What a firm says of its bundles, asked through its oracle.
 
-ghost use Rattle.std.specs.Prelude.{◌≡◌, ◌^◌, ◌<◌, ◌≤◌, ℤ, pos, ◌≤ℤ◌, length, All, true};
+ghost use Rattle.std.specs.Prelude.{◌≡◌, ◌^◌, ◌<◌, ◌≤◌, ℤ, pos, ◌≤ℤ◌, length, All};
 ghost use Rattle.tn_base.specs.Arcs.{IsAtMost};
-ghost use Rattle.tn_base.specs.Sets.{set_of};
 ghost use Rattle.tn_base.specs.Firm.{utility, IsBest};
 ghost use Rattle.tn_model.specs.Prices.{price_at};
 ghost use Rattle.tn_market.specs.Widths.{most_asked_price, most_own, most_scale, most_utility, most_worth};
@@ -10,20 +9,7 @@ ghost use Rattle.tn_price.specs.Standings.{Stands};
 
 use crate::firm_verdict::FirmVerdict;
 use tn_base::Bundle;
-use tn_market::{Oracle, utility_of, worth_of};
-
-/// The bundle of all of a firm's positions.
-#[tactic(auto, unfolding(tn_base::specs::Sets::set_of))]
-fn all_positions(n: u32) -> Bundle
-    requires { n ≤ most_own }
-    ensures { result ≡ set_of (λ k. true) n }
-{
-    let mut all = Bundle::empty();
-    for k in 0..n {
-        all = all.toggle(k);
-    }
-    all
-}
+use tn_market::{Oracle, all_positions, utility_of, worth_of};
 
 /// A best bundle with its utility, found from a bundle at hand: that one wherever it is best. Prices, scale and firm
 /// are within the limits of `best`.

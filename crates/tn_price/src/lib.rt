@@ -4,6 +4,7 @@
 
 mod bundle;
 mod check;
+mod content;
 mod firm;
 mod firm_verdict;
 mod judge;
@@ -13,6 +14,7 @@ mod surplus;
 
 pub use bundle::trades_in;
 pub use check::Check;
+pub use content::is_equilibrium;
 pub use firm::greatest;
 pub use judge::{judge_arrangement, judge_at, own_prices};
 pub use supported::Support;

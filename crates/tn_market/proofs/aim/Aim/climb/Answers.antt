@@ -24,9 +24,9 @@ loop-found-preserved g c =
     let before : SFits w128 c.loop-found.found.value = search rules in
     let gain = simp to_z-of_z at c.if-next-found.false in
     record {
-      valued = c.step-next.ensures.no_worse.valued c.loop-found.invariant.valued;
+      valued = c.step-next.ensures.tried.no_worse.valued c.loop-found.invariant.valued;
       kept = stays values c.args.from c.loop-found.found c.step-next.result c.loop-found.invariant.valued
-          c.step-next.ensures.no_worse
+          c.step-next.ensures.tried.no_worse
           (lt_from_test c.step-next.result.value c.loop-found.found.value gain) c.loop-found.invariant.kept;
     }
 
@@ -43,5 +43,5 @@ returns-then-next-found-clause-best g c =
     let laws = aimed_exchanges aim.allowed aim.scale aim.gains.now firm (omega (arith, ints, from_one))
     (g.met.V.Valuation.lawful aim.firm.now).own_bundles meets in
     settled (aimed aim.allowed aim.scale aim.gains.now firm) c.loop-found.found c.step-next.result laws
-    c.loop-found.invariant.valued c.step-next.ensures
+    c.loop-found.invariant.valued c.step-next.ensures.tried
     (le_from_test c.step-next.result.value c.loop-found.found.value no_gain)

@@ -1,9 +1,10 @@
 -- What shows the clauses of `Aim::step` of `src/aim.rt`.
-use Rattle.std.proofs.Common.{◌≡◌, ◌+◌, ◌<◌, ℕ, arith, sym, subst, ◌∙◌}
+use Rattle.std.proofs.Common.{◌≡◌, ◌+◌, ◌*◌, ◌<◌, ◌≤◌, ℕ, arith, sym, subst, ◌∙◌}
 use Rattle.tn_base.specs.Sets.{minus}
+use Rattle.tn_base.proofs.SizeLemmas.{size_le}
 use Rattle.tn_market.specs.declared.bundle_value.BundleValue.{BundleValue}
 use Rattle.tn_market.specs.Ascent.{aimed, TriesOne, TriesOthers, TriesNearby}
-use Rattle.tn_market.proofs.AscentLemmas.{allowed_within, toggled_within, earlier_none, earlier_more, earlier_same, earlier_within, none_tried, beside_tried, beside_outside, position_tried}
+use Rattle.tn_market.proofs.AscentLemmas.{allowed_within, toggled_within, earlier_none, earlier_more, earlier_same, earlier_within, none_tried, beside_tried, beside_outside, position_tried, one_row_more}
 use Rattle.tn_market.proofs.aim.Aim.step.Goals as goal
 use Rattle.tn_market.proofs.aim.Aim.step.Goals.{then-has, else-has}
 
@@ -18,6 +19,7 @@ loop-i-init g c =
       tried = none_tried (aimed aim.allowed aim.scale aim.gains.now (g.V.Valuation.firm aim.firm.now)).worth
           c.args.from.now.bundle c.args.from.now;
       earlier = c.empty-earlier.ensures ∙ earlier_none aim.allowed;
+      asked = omega arith;
     }
 
 pub better-best-requires-clause-within : goal.better-best-requires-clause-within
@@ -62,6 +64,11 @@ loop-i-preserved g c =
                 c.loop-i.invariant.tried beside);
             earlier = w.earlier-is ∙ w.toggle-earlier.ensures ∙ earlier_more aim.allowed c.loop-i.i c.loop-i.earlier
                 c.loop-i.invariant.earlier (sym c.has.ensures ∙ w.if-has.true);
+            asked =
+                let few = size_le firm.count c.loop-i.earlier (allowed_within c.loop-i.earlier aim.allowed firm.count
+                aim.fits.own (earlier_within aim.allowed c.loop-i.i c.loop-i.earlier c.loop-i.invariant.earlier)) in
+                let more = one_row_more c.loop-i.i firm.count in
+                omega (arith, w.steps-is, w.best_with-best.ensures.asked, c.loop-i.invariant.asked, few, more);
           }
       | else-has w ↦
           let absent = sym c.has.ensures ∙ w.if-has.false in
@@ -75,5 +82,20 @@ loop-i-preserved g c =
                 beside);
             earlier = w.earlier-is ∙ earlier_same aim.allowed c.loop-i.i c.loop-i.earlier c.loop-i.invariant.earlier
                 absent;
+            asked =
+                let more = one_row_more c.loop-i.i firm.count in
+                omega (arith, w.steps-is, c.loop-i.invariant.asked, more);
           }
     ]
+
+pub returns-clause-asked : goal.returns-clause-asked
+returns-clause-asked g c =
+    let aim = c.args.self.now in
+    let firm = g.V.Valuation.firm aim.firm.now in
+    let few = size_le firm.count aim.allowed aim.fits.own in
+    let count = c.trades-i-end.ensures.count in
+    let past = c.loop-i-test.false in
+    let end = c.loop-i.auto.i-end in
+    let all : c.loop-i.i ≡ firm.count = omega (arith, count, past, end) in
+    let rows = subst (λ (i : ℕ). c.loop-i.steps ≤ c.row.new.steps + i * firm.count) all c.loop-i.invariant.asked in
+    omega (arith, rows, few, c.row.ensures.asked)
