@@ -6,6 +6,7 @@ mod as_valuation;
 mod costs;
 mod dealer;
 mod laws;
+mod outline;
 mod pair;
 mod repeated;
 mod search;

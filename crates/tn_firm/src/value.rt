@@ -1,7 +1,8 @@
 //! Firms of one type, whatever their kind.
 
-use tn_base::{Asked, Bundle, Side, Steps};
+use tn_base::{Asked, Bundle, OutOfMemory, Side, Steps};
 use tn_dealer::Dealer;
+use tn_guess::Sketch;
 use tn_laminar::Laminar;
 use tn_market::{Oracle, Valuation};
 use tn_middle::Middle;
@@ -18,6 +19,20 @@ pub enum FirmValue {
     Middle(Middle),
     /// A firm that matches several purchases one to one with its sales.
     Dealer(Dealer),
+}
+
+impl FirmValue {
+    /// Lays the firm out as a part of a flow, and answers whether it has one: a table has none. It fails only where
+    /// memory runs out.
+    pub fn outline(&self, sketch: &mut Sketch) -> Result<bool, OutOfMemory> {
+        match self {
+            FirmValue::Table(_) => return Ok(false),
+            FirmValue::Laminar(firm) => firm.outline(sketch)?,
+            FirmValue::Middle(firm) => firm.outline(sketch)?,
+            FirmValue::Dealer(firm) => firm.outline(sketch)?,
+        }
+        Ok(true)
+    }
 }
 
 impl Valuation for FirmValue {

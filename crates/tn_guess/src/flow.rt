@@ -4,12 +4,19 @@ use crate::lists::{at, put};
 use std::alloc::Global;
 use tn_base::OutOfMemory;
 
+/// The node that stands for no firm: what ends there has no other condition.
+pub const GROUND: u32 = 0;
+
+/// About how many arcs and nodes a search looks at before it gives up. Dealers with a thousand trades take a quarter of
+/// it, and laminar firms with chains of sets a half, so what was made to be slow takes little longer.
+pub(crate) const MOST_WORK: u32 = 40_000_000;
+
 /// Arcs between nodes with the units that go over them. Node 0 is the ground. An arc has room for some units, each at
 /// its cost. The first arcs are trades, each from its seller to its buyer with room for one unit.
 #[derive(Drop)]
 pub struct Flow {
     pub(crate) nodes: u32,
-    pub(crate) trades: u32,
+    trades: u32,
     pub(crate) arcs: u32,
     from: Vec<u32>,
     to: Vec<u32>,
@@ -36,8 +43,8 @@ impl Flow {
             nodes: 1,
             trades,
             arcs: trades,
-            from: vec![in alloc; 0; count]?,
-            to: vec![in alloc; 0; count]?,
+            from: vec![in alloc; GROUND; count]?,
+            to: vec![in alloc; GROUND; count]?,
             room: vec![in alloc; 1; count]?,
             units: vec![in alloc; 0; count]?,
             cost: vec![in alloc; 0; count]?,
@@ -46,20 +53,31 @@ impl Flow {
         })
     }
 
+    /// How many trades there are.
+    pub fn trades(&self) -> u32 {
+        self.trades
+    }
+
     /// How many arcs there are, those of trades among them.
     pub fn arcs(&self) -> u32 {
         self.arcs
     }
 
-    /// One node more.
-    pub fn node(&mut self) -> u32 {
-        let node = self.nodes;
-        self.nodes = node.wrapping_add(1);
-        node
+    /// So many nodes more, with numbers that follow each other; the first of them.
+    pub fn add_nodes(&mut self, count: u32) -> u32 {
+        let first = self.nodes;
+        self.nodes = first.wrapping_add(count);
+        first
     }
 
     /// One arc more, with room for so many units at this cost each. It fails only where memory runs out.
-    pub fn arc(&mut self, from: u32, to: u32, room: u32, cost: i128) -> Result<(), OutOfMemory> {
+    pub fn add_arc(
+        &mut self,
+        from: u32,
+        to: u32,
+        room: u32,
+        cost: i128,
+    ) -> Result<(), OutOfMemory> {
         self.from.push(from)?;
         self.to.push(to)?;
         self.room.push(room)?;
@@ -70,14 +88,14 @@ impl Flow {
     }
 
     /// The seller of a trade stands at a node, and the trade is worth an amount to it.
-    pub fn sells(&mut self, trade: u32, node: u32, amount: i128) {
+    pub(crate) fn sells(&mut self, trade: u32, node: u32, amount: i128) {
         put(&mut self.from, trade, node);
         put(&mut self.at_seller, trade, narrowed(amount));
         self.settle_cost(trade);
     }
 
     /// The buyer of a trade stands at a node, and the trade is worth an amount to it.
-    pub fn buys(&mut self, trade: u32, node: u32, amount: i128) {
+    pub(crate) fn buys(&mut self, trade: u32, node: u32, amount: i128) {
         put(&mut self.to, trade, node);
         put(&mut self.at_buyer, trade, narrowed(amount));
         self.settle_cost(trade);
@@ -107,27 +125,27 @@ impl Flow {
     }
 
     /// The node from which an arc leads.
-    pub(crate) fn from(&self, arc: u32) -> u32 {
-        at(&self.from, arc, 0)
+    pub fn from(&self, arc: u32) -> u32 {
+        at(&self.from, arc, GROUND)
     }
 
     /// The node to which an arc leads.
-    pub(crate) fn to(&self, arc: u32) -> u32 {
-        at(&self.to, arc, 0)
+    pub fn to(&self, arc: u32) -> u32 {
+        at(&self.to, arc, GROUND)
     }
 
     /// For how many units an arc has room.
-    pub(crate) fn room(&self, arc: u32) -> u32 {
+    pub fn room(&self, arc: u32) -> u32 {
         at(&self.room, arc, 0)
     }
 
     /// How many units go over an arc.
-    pub(crate) fn units(&self, arc: u32) -> u32 {
+    pub fn units(&self, arc: u32) -> u32 {
         at(&self.units, arc, 0)
     }
 
     /// What a unit costs on an arc.
-    pub(crate) fn cost(&self, arc: u32) -> i64 {
+    pub fn cost(&self, arc: u32) -> i64 {
         at(&self.cost, arc, 0)
     }
 

@@ -1,15 +1,12 @@
 //! Prices of the trades of a flow of least cost, by labels of its nodes.
 
-use crate::flow::Flow;
+use crate::flow::{Flow, GROUND, MOST_WORK};
 use crate::lists::{at, put};
 use std::alloc::Global;
 use tn_base::OutOfMemory;
 
 /// The label of a node from which no walk leads on.
 const FAR: i64 = 1_000_000_000_000_000_000;
-
-/// How many arcs are looked at in all, about.
-const MOST_WORK: u32 = 100_000_000;
 
 /// For each node the least cost of a walk, over arcs with more room and back over those with units, that ends at a trade
 /// or at the ground. A price is what such walks from the ground and from a trade differ by, so it depends on no tree, and
@@ -27,8 +24,8 @@ impl<'a> Labels<'a> {
             flow,
             least: vec![in alloc; FAR; flow.nodes as usize]?,
         };
-        labels.lower(0, 0);
-        for trade in 0..flow.trades {
+        labels.lower(GROUND, 0);
+        for trade in 0..flow.trades() {
             labels.begin_at(trade);
         }
         Ok(labels)
@@ -91,7 +88,7 @@ impl<'a> Labels<'a> {
     }
 
     /// Looks at all arcs in turn, there and back, until no label is lowered, and answers whether none is. It gives up
-    /// after more turns than there are nodes, and after so much work.
+    /// after more turns than there are nodes, or after much work.
     pub fn settle(&mut self) -> bool {
         let most = MOST_WORK / self.flow.arcs.wrapping_add(1).max(1);
         for k in 0..most.min(self.flow.nodes.wrapping_add(10)) {
@@ -119,6 +116,6 @@ impl<'a> Labels<'a> {
         } else {
             self.reach(flow.buyer_amount(trade).wrapping_neg(), flow.to(trade))
         };
-        i128::from(self.label(0).wrapping_sub(own))
+        i128::from(self.label(GROUND).wrapping_sub(own))
     }
 }

@@ -10,7 +10,7 @@ mod simplex;
 mod sketch;
 mod tree;
 
-pub use flow::Flow;
+pub use flow::{Flow, GROUND};
 pub use labels::Labels;
 pub use simplex::Simplex;
 pub use sketch::Sketch;

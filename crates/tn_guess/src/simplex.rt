@@ -1,15 +1,11 @@
 //! The primal network simplex (Ahuja, Magnanti and Orlin, Network Flows, 1993). Its trees stay strongly feasible, so
 //! that no tree comes twice (Cunningham, A network simplex method, 1976).
 
-use crate::flow::Flow;
+use crate::flow::{Flow, MOST_WORK};
 use crate::lists::{at, put};
 use crate::tree::{NONE, Tree};
 use std::alloc::Global;
 use tn_base::OutOfMemory;
-
-/// How many arcs and nodes are looked at in all. A network of a thousand trades takes a hundredth of it, and one that
-/// was made to be slow takes no longer than this.
-const MOST_WORK: u32 = 100_000_000;
 
 /// How an arc stands to the tree.
 #[derive(Clone, Copy, PartialEq, Eq)]
@@ -65,7 +61,7 @@ impl Simplex {
     }
 
     /// Moves units until no arc gains, and answers whether none does: it gives up after four turns an arc and a thousand
-    /// more, and after so much work.
+    /// more, or after much work.
     pub fn run(&mut self) -> bool {
         for _ in 0..self.flow.arcs.wrapping_mul(4).wrapping_add(1000) {
             let arc = self.entering();

@@ -1,7 +1,8 @@
 //! What firms say of themselves for a guess.
 
-use crate::flow::Flow;
+use crate::flow::{Flow, GROUND};
 use crate::lists::{at, put};
+use tn_base::Side;
 
 /// How many own trades a firm may have.
 const POSITIONS: usize = 64;
@@ -21,7 +22,7 @@ impl Sketch {
     pub fn over(flow: Flow) -> Sketch {
         Sketch {
             flow,
-            nodes: [0; POSITIONS],
+            nodes: [GROUND; POSITIONS],
             amounts: [0; POSITIONS],
         }
     }
@@ -32,13 +33,18 @@ impl Sketch {
         put(&mut self.amounts, position, amount);
     }
 
-    /// The node at which the trade at a position ends.
-    pub fn node_of(&self, position: u32) -> u32 {
-        at(&self.nodes, position, 0)
+    /// This trade stands at a position, on this side: it ends where the firm has said.
+    pub fn join(&mut self, position: u32, trade: u32, side: Side) {
+        let node = at(&self.nodes, position, GROUND);
+        let amount = at(&self.amounts, position, 0);
+        match side {
+            Side::Buy => self.flow.buys(trade, node, amount),
+            Side::Sell => self.flow.sells(trade, node, amount),
+        }
     }
 
-    /// What the trade at a position is worth.
-    pub fn amount_of(&self, position: u32) -> i128 {
-        at(&self.amounts, position, 0)
+    /// The flow that was laid out.
+    pub fn into_flow(self) -> Flow {
+        self.flow
     }
 }

@@ -7,6 +7,7 @@ mod as_valuation;
 mod faults;
 mod laminar;
 mod masks;
+mod outline;
 mod refusal;
 mod row;
 mod set;

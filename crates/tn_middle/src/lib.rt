@@ -5,6 +5,7 @@
 mod as_valuation;
 mod laws;
 mod middle;
+mod outline;
 
 pub use laws::middlemen_pair;
 pub use middle::Middle;

@@ -17,8 +17,8 @@ use tn_base::{Bundle, Side, purchases};
 pub struct Middle {
     pub(crate) trades: u32,
     pub(crate) buys: Bundle,
-    numbers: Vec<i128>,
-    keep: Option<i128>,
+    pub(crate) numbers: Vec<i128>,
+    pub(crate) keep: Option<i128>,
     ghost middle: { IsMiddle trades buys numbers.items keep },
 }
 
