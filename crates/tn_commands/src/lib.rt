@@ -5,6 +5,7 @@
 
 mod check;
 mod drill;
+mod guessing;
 mod judge;
 mod laws;
 mod range;
@@ -15,6 +16,7 @@ mod support;
 
 pub use check::answer_check;
 pub use drill::answer_drill;
+pub use guessing::{decided, guess};
 pub use judge::answer_judge;
 pub use laws::firms_away_have_nothing;
 pub use range::answer_range;

@@ -1,18 +1,19 @@
 //! The answer of `solve`.
 
-ghost use Rattle.std.specs.Prelude.{◌≡◌, ◌≤◌, pos, All, IfOk, Some, length};
+ghost use Rattle.std.specs.Prelude.{◌≡◌, ◌+◌, ◌*◌, ◌≤◌, pos, All, IfOk, IfSome, Some, length, map};
 ghost use Rattle.tn_answer.specs.Kept.{IsWithinClaim, IsWithinClaims};
 ghost use Rattle.tn_base.specs.Arcs.{IsAtMost};
 ghost use Rattle.tn_firm.specs.Firms.{firm_of};
 ghost use Rattle.tn_model.specs.Prices.{price_at};
 ghost use Rattle.tn_market.specs.Equilibrium.{IsEquilibrium, surplus_of};
-ghost use Rattle.tn_market.specs.Graph.{ArePossible};
+ghost use Rattle.tn_market.specs.Graph.{ArePossible, graph_worths};
 ghost use Rattle.tn_model.specs.Network.{trades_on};
 ghost use Rattle.tn_commands.specs.Solve.{Solves};
 ghost use Rattle.tn_commands.specs.Limits.{AreWorthsAnswered, most_answered_trades};
 ghost use Rattle.tn_model.specs.Limits.{most_price};
 ghost use Rattle.tn_market.specs.NetworkOf.{network_of};
 
+use crate::guessing::{decided, guess};
 use std::alloc::Global;
 use tn_base::{Asked, OutOfMemory, Steps, TradeSet};
 use tn_firm::FirmValue;
@@ -20,6 +21,10 @@ use tn_flow::Solver;
 use tn_market::{Arrangement, Market, Prices, TradeEnds, Trades};
 use tn_price::surplus_of;
 use tn_said::Said;
+
+/// Up to so many trades an equilibrium is found by rounds alone, so that which of several efficient sets is answered
+/// stays as it was.
+const FEW_TRADES: u32 = 128;
 
 /// The trades of a set, ascending.
 pub(crate) fn trades_on(alloc: Global, on: &TradeSet<16>, count: u32) -> Result<Trades, OutOfMemory>
@@ -59,6 +64,74 @@ fn prices_of(alloc: Global, solver: &Solver<16>, count: u32) -> Result<Prices, O
     Ok(Prices::from_vec(prices))
 }
 
+/// An equilibrium of a market, found by rounds: at most a worth for each two places of each firm, once for each trade.
+fn equilibrium_by_rounds(
+    alloc: Global,
+    market: &Market<FirmValue>,
+    steps: &mut Steps<Asked>,
+) -> Result<Arrangement<16>, OutOfMemory>
+    requires wide { length market.now.trades ≤ most_answered_trades }
+    requires worths { network_of firm_of market.now AreWorthsAnswered }
+    ensures equilibrium { IfOk result
+        (λ at. network_of firm_of market.now IsEquilibrium (pos 1) at.on (price_at at.prices)) }
+    ensures one_each { IfOk result (λ at. length at.prices ≡ length market.now.trades) }
+    ensures small { IfOk result (λ at. All (λ price. IsAtMost price most_price) at.prices) }
+    ensures asked { steps.new ≤ steps.old + length market.now.trades * graph_worths (map firm_of market.now.firms) }
+{
+    let mut solver = Solver::<16>::with_room(alloc, market)?;
+    solver.solve_in(market, steps);
+    let on = *solver.on();
+    let prices = prices_of(alloc, &solver, market.trades());
+    drop(solver);
+    Ok(Arrangement {
+        on,
+        prices: prices?,
+    })
+}
+
+/// A guess that is an equilibrium, asked for where rounds would take long. One test is all that it asks worths for.
+fn guessed(
+    alloc: Global,
+    market: &Market<FirmValue>,
+    steps: &mut Steps<Asked>,
+) -> Result<Option<Arrangement<16>>, OutOfMemory>
+    requires wide { length market.now.trades ≤ most_answered_trades }
+    ensures equilibrium { IfOk result (λ found. IfSome found
+        (λ at. network_of firm_of market.now IsEquilibrium (pos 1) at.on (price_at at.prices))) }
+    ensures one_each { IfOk result (λ found. IfSome found (λ at. length at.prices ≡ length market.now.trades)) }
+    ensures small { IfOk result (λ found. IfSome found (λ at. All (λ price. IsAtMost price most_price) at.prices)) }
+    ensures asked { steps.new ≤ steps.old + graph_worths (map firm_of market.now.firms) }
+{
+    if market.trades() <= FEW_TRADES {
+        return Ok(None);
+    }
+    match guess(alloc, market)? {
+        Some(at) => Ok(decided(market, at, steps)),
+        None => Ok(None),
+    }
+}
+
+/// An equilibrium of a market, guessed or found by rounds: by at most one round of worths more than there are trades.
+fn equilibrium_within(
+    alloc: Global,
+    market: &Market<FirmValue>,
+    steps: &mut Steps<Asked>,
+) -> Result<Arrangement<16>, OutOfMemory>
+    requires wide { length market.now.trades ≤ most_answered_trades }
+    requires worths { network_of firm_of market.now AreWorthsAnswered }
+    ensures equilibrium { IfOk result
+        (λ at. network_of firm_of market.now IsEquilibrium (pos 1) at.on (price_at at.prices)) }
+    ensures one_each { IfOk result (λ at. length at.prices ≡ length market.now.trades) }
+    ensures small { IfOk result (λ at. All (λ price. IsAtMost price most_price) at.prices) }
+    ensures asked { steps.new
+        ≤ steps.old + (length market.now.trades + 1) * graph_worths (map firm_of market.now.firms) }
+{
+    match guessed(alloc, market, steps)? {
+        Some(at) => Ok(at),
+        None => equilibrium_by_rounds(alloc, market, steps),
+    }
+}
+
 /// An equilibrium of a market.
 pub(crate) fn equilibrium(
     alloc: Global,
@@ -71,15 +144,7 @@ pub(crate) fn equilibrium(
     ensures one_each { IfOk result (λ at. length at.prices ≡ length market.now.trades) }
     ensures small { IfOk result (λ at. All (λ price. IsAtMost price most_price) at.prices) }
 {
-    let mut solver = Solver::<16>::with_room(alloc, market)?;
-    solver.solve_in(market, &mut Steps::new(Asked));
-    let on = *solver.on();
-    let prices = prices_of(alloc, &solver, market.trades());
-    drop(solver);
-    Ok(Arrangement {
-        on,
-        prices: prices?,
-    })
+    equilibrium_within(alloc, market, &mut Steps::new(Asked))
 }
 
 /// The surplus of a set of trades whose bundles are possible.

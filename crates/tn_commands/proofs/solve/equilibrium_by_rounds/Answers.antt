@@ -1,4 +1,4 @@
--- What shows the clauses of `equilibrium` of `src/solve.rt`.
+-- What shows the clauses of `equilibrium_by_rounds` of `src/solve.rt`.
 use Rattle.std.proofs.Common.{ℕ, ℤ, ◌+◌, ◌*◌, ◌≤◌, List, pos, arith, length, map, sym, subst, ap, ◌∙◌}
 use Rattle.std.specs.Prelude.{All}
 use Rattle.tn_base.specs.Arcs.{IsAtMost}
@@ -10,7 +10,7 @@ use Rattle.tn_commands.specs.Limits.{most_answered_trades}
 use Rattle.tn_base.specs.Widths.{most_cost}
 use Rattle.tn_model.specs.Limits.{most_price, most_worth_among}
 use Rattle.tn_market.specs.Widths.{most_worth}
-use Rattle.tn_commands.proofs.solve.equilibrium.Goals as goal
+use Rattle.tn_commands.proofs.solve.equilibrium_by_rounds.Goals as goal
 
 few : (trades : ℕ) → trades ≤ most_answered_trades → 2 * most_worth * (trades + 1) ≤ most_cost
 few trades most = omega (arith, most)
