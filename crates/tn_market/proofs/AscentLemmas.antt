@@ -286,14 +286,14 @@ starts allowed scale gains firm bundle value abstains empty is =
 pub le_from_test : (a b : ℤ) → le_z a b ≡ true → a ≤ℤ b
 le_from_test a b test = grind (arith, ints)
 
--- no step from a best bundle gains, so it isn't left
-pub stays : (value_of : ℕ → Option ℤ) (from : ℕ) (found next : BundleValue) → IsValued value_of found
+-- no step from a best bundle gains
+pub is_left : (value_of : ℕ → Option ℤ) (from : ℕ) (found next : BundleValue) → IsValued value_of found
     → IsNoWorse value_of found next → found.value <ℤ next.value
-    → StaysAt value_of from found.bundle → StaysAt value_of from next.bundle
-stays value_of from found next valued step gains kept value best =
+    → StaysAt value_of from found.bundle → (value : ℤ) → IsBest value_of from value → ⊥
+is_left value_of from found next valued step gains kept value best =
     let same = same_Some found.value value (sym valued ∙ ap value_of (kept value best) ∙ best.is) in
     let most = best.most next.bundle next.value (step.valued valued) in
-    absurd (omega (arith, ints, same, most, gains))
+    omega (arith, ints, same, most, gains)
 
 pub lt_from_test : (a b : ℤ) → le_z a b ≡ false → b <ℤ a
 lt_from_test a b test = grind (arith, ints)
@@ -316,3 +316,10 @@ settled firm found next laws valued tries no_gain =
 -- one row more of as many worths
 pub one_row_more : (rows n : ℕ) → (rows + 1) * n ≡ rows * n + n
 one_row_more rows n = grind arith
+
+-- one worth, and those of a step, are at most one for each two of the positions and none
+pub at_each_two : (n before after last : ℕ) → after ≤ before + 1 → last ≤ after + n + n * n
+    → last ≤ before + (n + 1) * (n + 1)
+at_each_two n before after last first step =
+    let squares : (n + 1) * (n + 1) ≡ n * n + n + n + 1 = grind arith in
+    omega (arith, first, step, squares)

@@ -1,5 +1,5 @@
 -- The search for a best bundle: what it compares, and how far it has looked.
-use Rattle.std.specs.Prelude.{◌≡◌, ℕ, ◌*◌, ◌^◌, ◌<◌, ◌≤◌, ℤ, pos, neg_ℤ, ◌+ℤ◌, ◌≤ℤ◌, List, length, All, Option, Some, true, if◌then◌else◌}
+use Rattle.std.specs.Prelude.{◌≡◌, ℕ, ◌+◌, ◌*◌, ◌^◌, ◌<◌, ◌≤◌, ℤ, pos, neg_ℤ, ◌+ℤ◌, ◌≤ℤ◌, List, length, All, Option, Some, true, if◌then◌else◌}
 use Rattle.tn_base.specs.Sets.{has, toggle}
 use Rattle.tn_base.specs.Arcs.{IsAtMost}
 use Rattle.tn_base.specs.Firm.{Firm, plus_sum, among, payments, IsBest}
@@ -40,6 +40,10 @@ IsValued value_of found = value_of found.bundle ≡ Some found.value
 -- x is the bundle at hand, wherever that is best
 abbrev pub StaysAt : (ℕ → Option ℤ) → ℕ → ℕ → Type 0
 StaysAt value_of from x = (value : ℤ) → IsBest value_of from value → x ≡ from
+
+-- wherever the bundle at hand is best, at most so many worths were asked for
+abbrev pub AsksFew : (ℕ → Option ℤ) → ℕ → ℕ → ℕ → ℕ → Type 0
+AsksFew value_of from count before after = (value : ℤ) → IsBest value_of from value → after ≤ before + count
 
 -- what was found after is a possible bundle with its value, as it was before, and of no less value
 pub record IsNoWorse (value_of : ℕ → Option ℤ) (before after : BundleValue) : Type 0 where

@@ -6,7 +6,7 @@ ghost use Rattle.std.specs.Prelude.{◌≡◌, ◌+◌, ◌*◌, ◌<◌, ◌≤
 ghost use Rattle.tn_base.specs.Arcs.{IsAtMost};
 ghost use Rattle.tn_base.specs.Sets.{has, minus, size, sum_over};
 ghost use Rattle.tn_base.specs.Firm.{IsBest};
-ghost use Rattle.tn_market.specs.Ascent.{aimed, IsAim, IsValued, StaysAt, TriesOne, TriesOthers, TriesNearby};
+ghost use Rattle.tn_market.specs.Ascent.{AsksFew, aimed, IsAim, IsValued, StaysAt, TriesOne, TriesOthers, TriesNearby};
 ghost use Rattle.tn_model.specs.Prices.{price_at};
 ghost use Rattle.tn_market.specs.Widths.{most_worth, most_scale, most_own, most_utility, most_aimed};
 
@@ -189,12 +189,16 @@ impl<V: Valuation> Aim<'_, V> {
         }
     }
 
-    /// A best bundle with its value, found from a bundle at hand: that one wherever it is best.
+    /// A best bundle with its value, found from a bundle at hand: that one wherever it is best, by at most a worth for
+    /// each two places, where none is a place too.
     pub fn climb(&self, from: Bundle, steps: &mut Steps<V::Mark>) -> BundleValue
         ensures best { IsBest (aimed self.now.allowed self.now.scale self.now.gains.now
             (V.firm self.now.firm.now)).worth result.bundle result.value }
         ensures kept { StaysAt (aimed self.now.allowed self.now.scale self.now.gains.now
             (V.firm self.now.firm.now)).worth from result.bundle }
+        ensures asked { AsksFew (aimed self.now.allowed self.now.scale self.now.gains.now
+            (V.firm self.now.firm.now)).worth from (((V.firm self.now.firm.now).count + 1)
+            * ((V.firm self.now.firm.now).count + 1)) steps.old steps.new }
     {
         let mut found = self.start(from, steps);
         // Each turn but the last raises the value, which the limits of the firm and the gains bound: so this ends.
@@ -213,6 +217,8 @@ impl<V: Valuation> Aim<'_, V> {
             (V.firm self.now.firm.now)).worth result }
         ensures kept { StaysAt (aimed self.now.allowed self.now.scale self.now.gains.now
             (V.firm self.now.firm.now)).worth from result.bundle }
+        ensures asked { AsksFew (aimed self.now.allowed self.now.scale self.now.gains.now
+            (V.firm self.now.firm.now)).worth from 1 steps.old steps.new }
     {
         if let Some(value) = self.value(from, steps) {
             return BundleValue {

@@ -6,7 +6,7 @@ ghost use Rattle.tn_base.specs.Arcs.{IsAtMost};
 ghost use Rattle.tn_base.specs.Sets.{meet, set_of, union};
 ghost use Rattle.tn_base.specs.Firm.{IsBest, utility};
 ghost use Rattle.tn_market.specs.Ascent.{AreGains, payment_of};
-ghost use Rattle.tn_market.specs.Best.{GivesBest};
+ghost use Rattle.tn_market.specs.Best.{GivesBest, IsBestBetween};
 ghost use Rattle.tn_market.specs.BestFrom.{IsBestFrom};
 ghost use Rattle.tn_model.specs.Prices.{price_at};
 ghost use Rattle.tn_market.specs.Widths.{most_own, most_worth, most_asked_price, most_scale, most_utility};
@@ -105,8 +105,8 @@ pub fn best_by_ascent<V: Valuation>(
 /// wherever it is best. Each worth that it asks counts on `steps`. It takes no memory.
 ///
 /// The search goes up from `from` as that of `best_by_ascent` does from the empty bundle, and from that one where
-/// `from` is impossible or not within `allowed`. So where `from` is best it asks for one worth and for those with one
-/// or two positions toggled. The positions in `allowed` are own; prices, scale and firm are within the limits of
+/// `from` is impossible or not within `allowed`. So where `from` is best it asks for at most a worth for each two places,
+/// where none is a place too. The positions in `allowed` are own; prices, scale and firm are within the limits of
 /// `best_by_ascent`.
 pub fn best_by_ascent_from<V: Valuation>(
     firm: &V,
@@ -125,6 +125,8 @@ pub fn best_by_ascent_from<V: Valuation>(
     requires small_worths { V.limit firm.now ≤ most_worth }
     ensures best { IsBestFrom from allowed (utility scale (price_at prices.now) (V.firm firm.now)) result }
     ensures small { IsAtMost result.1 most_utility }
+    ensures asked { (value : ℤ) → IsBestBetween 0 allowed (utility scale (price_at prices.now) (V.firm firm.now)) from
+        value → steps.new ≤ steps.old + ((V.firm firm.now).count + 1) * ((V.firm firm.now).count + 1) }
 {
     let gains = gains(firm, Bundle::empty(), prices);
     let aim = Aim {

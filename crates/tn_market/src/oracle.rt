@@ -49,8 +49,8 @@ pub trait Oracle: Valuation<Mark = Asked> {
     }
 
     /// A bundle of greatest utility among the possible ones within `allowed`, with that utility, found from a bundle at
-    /// hand: that one wherever it is of greatest utility, so that a verdict on one bundle asks for few worths. The
-    /// positions in `allowed` are own. Prices, scale and firm are within the limits of `best`. It takes no memory.
+    /// hand: that one wherever it is of greatest utility. The positions in `allowed` are own. Prices, scale and firm are
+    /// within the limits of `best`. It takes no memory.
     fn best_from(
         &self,
         from: Bundle,
@@ -72,8 +72,8 @@ pub trait Oracle: Valuation<Mark = Asked> {
     }
 }
 
-/// The utility of a bundle at a scale and at the prices of the positions, None where it is impossible: by one worth. It
-/// takes no memory. The bundle has own positions alone; prices, scale and firm are within the limits of `best`.
+/// The utility of a bundle at a scale and at the prices of the positions, None where it is impossible. It takes no
+/// memory. The bundle has own positions alone; prices, scale and firm are within the limits of `best`.
 pub fn utility_of<V: Oracle>(firm: &V, x: Bundle, scale: i128, prices: &[i128]) -> Option<i128>
     requires own { x < 2 ^ (V.firm firm.now).count }
     requires priced { length prices.now ≡ (V.firm firm.now).count }
@@ -96,8 +96,8 @@ pub fn utility_of<V: Oracle>(firm: &V, x: Bundle, scale: i128, prices: &[i128]) 
     aim.value(x, &mut Steps::new(Asked))
 }
 
-/// The worth of a bundle, None where it is impossible: by one worth. It takes no memory. The bundle has own positions
-/// alone; the firm has at most 60 own trades and no worth above 1.24 * 10^11.
+/// The worth of a bundle, None where it is impossible. It takes no memory. The bundle has own positions alone; the firm
+/// has at most 60 own trades and no worth above 1.24 * 10^11.
 pub fn worth_of<V: Oracle>(firm: &V, x: Bundle) -> Option<i128>
     requires own { x < 2 ^ (V.firm firm.now).count }
     requires few_trades { (V.firm firm.now).count ≤ most_own }

@@ -1,5 +1,5 @@
 -- What shows the clauses of `best_by_ascent_from` of `src/ascent.rt`.
-use Rattle.std.proofs.Common.{rules, ◌^◌, ◌<◌, ℕ, ℤ, Some, sym, subst}
+use Rattle.std.proofs.Common.{rules, ◌+◌, ◌*◌, ◌^◌, ◌<◌, ℕ, ℤ, Some, sym, subst}
 use Rattle.std.proofs.lemmas.Int.{to_z-of_z}
 use mir.Syntax.{w128}
 use mir.Val.{SFits}
@@ -7,7 +7,7 @@ use Rattle.tn_base.specs.Arcs.{IsAtMost}
 use Rattle.tn_base.specs.Firm.{IsBest, utility}
 use Rattle.tn_model.specs.Prices.{price_at}
 use Rattle.tn_market.specs.Best.{IsBestBetween}
-use Rattle.tn_market.specs.Ascent.{aimed, StaysAt}
+use Rattle.tn_market.specs.Ascent.{AsksFew, aimed, StaysAt}
 use Rattle.tn_market.proofs.BonusLemmas.{IsQuestion, beside_none, plain_best, best_plain, plain_small}
 use Rattle.tn_market.specs.Widths.{most_utility}
 use Rattle.tn_market.proofs.ascent.best_by_ascent_from.Goals as goal
@@ -40,6 +40,9 @@ returns g c =
     let kept = subst (λ (scale : ℤ). StaysAt (aimed c.args.allowed scale c.gains-gains.result firm).worth c.args.from
     c.climb-found.result.bundle)
     (to_z-of_z w128 c.args.scale scale_fits) c.climb-found.ensures.kept in
+    let asked = subst (λ (scale : ℤ). AsksFew (aimed c.args.allowed scale c.gains-gains.result firm).worth c.args.from
+    ((firm.count + 1) * (firm.count + 1)) c.args.steps.now c.climb-found.new.steps)
+    (to_z-of_z w128 c.args.scale scale_fits) c.climb-found.ensures.asked in
     record {
       best = record {
         best = subst (IsBestBetween 0 c.args.allowed (utility c.args.scale (price_at c.args.prices.now) firm)
@@ -49,6 +52,9 @@ returns g c =
             c.args.allowed c.args.scale c.args.prices.now c.gains-gains.result
             c.empty.ensures question c.args.from value greatest);
       };
+      asked = λ value greatest. asked value (best_plain firm (g.V.Valuation.limit c.args.firm.now) c.empty.result
+          c.args.allowed c.args.scale c.args.prices.now c.gains-gains.result
+          c.empty.ensures question c.args.from value greatest);
       small = subst (λ (z : ℤ). IsAtMost z most_utility) (sym (to_z-of_z w128 c.climb-found.result.value value_fits))
           (plain_small firm (g.V.Valuation.limit c.args.firm.now) c.empty.result c.args.allowed c.args.scale
           c.args.prices.now c.gains-gains.result question

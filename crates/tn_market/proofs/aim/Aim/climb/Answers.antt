@@ -5,7 +5,7 @@ use mir.Syntax.{w128}
 use mir.Val.{SFits}
 use Rattle.tn_market.specs.Valued.{meets_exchange}
 use Rattle.tn_market.specs.Ascent.{aimed}
-use Rattle.tn_market.proofs.AscentLemmas.{aimed_exchanges, settled, le_from_test, lt_from_test, stays, valued_within}
+use Rattle.tn_market.proofs.AscentLemmas.{aimed_exchanges, settled, le_from_test, lt_from_test, is_left, valued_within, at_each_two}
 use Rattle.tn_market.proofs.aim.Aim.climb.Goals as goal
 
 pub step-next-requires : goal.step-next-requires
@@ -23,11 +23,13 @@ loop-found-preserved g c =
     let after : SFits w128 c.step-next.result.value = search rules in
     let before : SFits w128 c.loop-found.found.value = search rules in
     let gain = simp to_z-of_z at c.if-next-found.false in
+    let left = is_left values c.args.from c.loop-found.found c.step-next.result c.loop-found.invariant.valued
+        c.step-next.ensures.tried.no_worse
+        (lt_from_test c.step-next.result.value c.loop-found.found.value gain) c.loop-found.invariant.kept in
     record {
       valued = c.step-next.ensures.tried.no_worse.valued c.loop-found.invariant.valued;
-      kept = stays values c.args.from c.loop-found.found c.step-next.result c.loop-found.invariant.valued
-          c.step-next.ensures.tried.no_worse
-          (lt_from_test c.step-next.result.value c.loop-found.found.value gain) c.loop-found.invariant.kept;
+      kept = λ value best. absurd (left value best);
+      asked = λ value best. absurd (left value best);
     }
 
 pub returns-then-next-found-clause-best : goal.returns-then-next-found-clause-best
@@ -45,3 +47,10 @@ returns-then-next-found-clause-best g c =
     settled (aimed aim.allowed aim.scale aim.gains.now firm) c.loop-found.found c.step-next.result laws
     c.loop-found.invariant.valued c.step-next.ensures.tried
     (le_from_test c.step-next.result.value c.loop-found.found.value no_gain)
+
+pub returns-then-next-found-clause-asked : goal.returns-then-next-found-clause-asked
+returns-then-next-found-clause-asked g c = λ value best.
+    let before = c.loop-found.invariant.asked value best in
+    let step = c.step-next.ensures.asked in
+    at_each_two (g.V.Valuation.firm c.args.self.now.firm.now).count c.args.steps.now c.loop-found.steps
+    c.step-next.new.steps before step

@@ -1,7 +1,7 @@
 -- What the loops of `Aim::climb` of `src/aim.rt` keep.
 use Rattle.std.proofs.Common.{◌^◌, pos, ◌-ℤ◌}
 use borrow.Author.Differences.{up}
-use Rattle.tn_market.specs.Ascent.{aimed, IsValued, StaysAt}
+use Rattle.tn_market.specs.Ascent.{AsksFew, aimed, IsValued, StaysAt}
 use Rattle.tn_market.proofs.aim.Aim.climb.Given as goal
 
 abbrev pub invariant-loop-found : goal.invariant-loop-found
@@ -10,6 +10,8 @@ invariant-loop-found g l = record {
       l.found;
   kept : StaysAt (aimed l.self.allowed l.self.scale l.self.gains.now (g.V.Valuation.firm l.self.firm.now)).worth
       l.fn.from l.found.bundle;
+  asked : AsksFew (aimed l.self.allowed l.self.scale l.self.gains.now (g.V.Valuation.firm l.self.firm.now)).worth
+      l.fn.from 1 l.fn.steps l.steps;
 }
 
 abbrev pub decreases-loop-found : goal.decreases-loop-found
