@@ -6,9 +6,10 @@ ghost use Rattle.tn_network_laws.specs.Rounds.{OneCycleForEachTrade};
 /// Where trades are admitted one after another, one cycle of the exchange graph through the new trade, of least cost
 /// and then of least arcs, leads from an equilibrium of the trades before to one with it; and numbers of the nodes that
 /// keep the arcs are its prices. Numbers that keep the arcs with the new trade keep those after the round too, where
-/// the arcs that enter it find its number and the cost of the cycle. So every network of firms that meet exchange has
-/// an equilibrium (Hatfield, Kominers, Nichifor, Ostrovsky and Westkamp, 2013; as a flow, Candogan, Epitropou and
-/// Vohra, 2021).
+/// the arcs that enter it find its number and the cost of the cycle. So a network of firms that meet exchange has an
+/// equilibrium (Hatfield, Kominers, Nichifor, Ostrovsky and Westkamp, 2013; as a flow, Candogan, Epitropou and Vohra,
+/// 2021): the solver's answer shows one of each network that it is asked about, since that there is such a cycle is
+/// found, round by round, and no law.
 pub fn one_cycle_for_each_trade()
     ensures { OneCycleForEachTrade }
 {}
