@@ -10,12 +10,12 @@ use Rattle.tn_run.specs.Answer.{IsAnswerOf, IsAnswerTo}
 use Rattle.tn_run.specs.Cases.{IsCaseAnswer, IsAllowed}
 use Rattle.tn_run.specs.Run.{status_of}
 use Rattle.tn_run.specs.Status.{status_number}
-use Rattle.tn_run.specs.Words.{case_command, case_layout, need_of}
-use Rattle.tn_run.specs.declared.command.Command.{Command}
+use Rattle.tn_run.specs.Words.{case_command, case_layout}
+use Rattle.tn_file.specs.declared.command.Command.{Command}
 use Rattle.tn_case_laws.specs.Laws.{HasOneAnswer}
 
 pub one_answer : (case : CaseData) (command : Command) (doc : DocumentData) (said : Said)
-    → case_command case.command ≡ Some command → reading_of (need_of command) case.document ≡ Ok doc
+    → case_command case.command ≡ Some command → reading_of command case.document ≡ Ok doc
     → IsAnswerOf command doc said → ((other : Said) → IsAnswerOf command doc other → other ≡ said)
     → case.status ≡ status_number (status_of said) → case.text ≡ answer_line (case_layout case.command) doc.names said
     → HasOneAnswer case

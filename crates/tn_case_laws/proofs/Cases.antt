@@ -9,14 +9,13 @@ use Rattle.tn_cases.specs.Book.{cases_of_the_book}
 use Rattle.tn_commands.proofs.CheckLemmas.{completed_lasts, implied_by}
 use Rattle.tn_commands.specs.Implied.{IsLastingOutcome}
 use Rattle.tn_exchange.specs.Rows.{worth_in}
-use Rattle.tn_file.specs.declared.need.Need.TheVariants.{Market, Raw, Arrangement, Outcome}
 use Rattle.tn_file.specs.Laws.{IsDocument}
 use Rattle.tn_file.proofs.DocumentLeads.{documents_are_networks}
 use Rattle.tn_said.specs.declared.said.Said.TheVariants.{Equilibrium, Better, Impossible, Accepted, Cycle, Solved, Drops, Completes, Invalid}
 use Rattle.tn_said.specs.declared.reason.Reason.TheVariants.{Choice}
 use Rattle.tn_model.specs.Prices.{price_at}
 use Rattle.tn_market.specs.Equilibrium.{surplus_of}
-use Rattle.tn_run.specs.declared.command.Command.TheVariants.{Check, Judge, Replay, Solve, Support, Test}
+use Rattle.tn_file.specs.declared.command.Command.TheVariants.{Check, Judge, Replay, Solve, Support, Test}
 use Rattle.tn_case_laws.specs.Laws.{HasOneAnswer, EachCaseHasOneAnswer}
 use Rattle.tn_case_laws.proofs.Answered.{one_answer, each_in}
 use Rattle.tn_case_laws.proofs.Checked.{only_equilibrium, is_better, only_better}
@@ -40,7 +39,7 @@ case_1 = one_answer (Trees.numbered 1) Check (Readings.deal_document asks_3 Read
     Readings.reading_1 (
       (equilibrium_at_4, surplus_2),
       λ surplus e. implied_by (deal_firms asks_3) deal_trades 1 (price_at (pos 4 ∷ []))
-          (documents_are_networks Arrangement Trees.bytes_1 _ Readings.reading_1).network equilibrium_at_4,
+          (documents_are_networks Check Trees.bytes_1 _ Readings.reading_1).network equilibrium_at_4,
     )
     (λ other answers. only_equilibrium (deal_firms asks_3) deal_trades 1 (price_at (pos 4 ∷ [])) (pos 2)
     equilibrium_at_4 surplus_2 other answers.0)
@@ -59,7 +58,7 @@ case_2 = one_answer (Trees.numbered 2) Check (Readings.deal_document asks_3 Read
 case_3 : HasOneAnswer (Trees.numbered 3)
 unfolding answer_line escape_byte digits
 case_3 = one_answer (Trees.numbered 3) Solve Readings.idle_document (Solved [] [] (pos 7) []) refl Readings.reading_3
-    (is_solved (documents_are_networks Market Trees.bytes_3 _ Readings.reading_3).network)
+    (is_solved (documents_are_networks Solve Trees.bytes_3 _ Readings.reading_3).network)
     only_solved
     refl refl
 
@@ -73,7 +72,7 @@ case_4 = one_answer (Trees.numbered 4) Test Readings.document_4 (failure both_tr
     refl refl
   where
     fails : FailsFirst both_firms 1 both_table both_triple
-    fails = both_fail ((documents_are_networks Raw Trees.bytes_4 Readings.document_4 Readings.reading_4).own_bundles 0 _
+    fails = both_fail ((documents_are_networks Test Trees.bytes_4 Readings.document_4 Readings.reading_4).own_bundles 0 _
         refl)
 
 -- a dealer
@@ -94,7 +93,7 @@ case_6 = one_answer (Trees.numbered 6) Test Readings.document_6 (failure tied_tr
     refl refl
   where
     fails : FailsFirst tied_firms 1 tied_table tied_triple
-    fails = tied_fail ((documents_are_networks Raw Trees.bytes_6 Readings.document_6 Readings.reading_6).own_bundles 0 _
+    fails = tied_fail ((documents_are_networks Test Trees.bytes_6 Readings.document_6 Readings.reading_6).own_bundles 0 _
         refl)
 
 -- an impossible bundle
@@ -108,11 +107,11 @@ case_8 : HasOneAnswer (Trees.numbered 8)
 unfolding answer_line escape_byte digits
 case_8 = one_answer (Trees.numbered 8) Judge (Readings.deal_document asks_5 Readings.extra_8)
     (Completes (pos 5 ∷ []) (pos 1)) refl Readings.reading_8
-    (rational_5, completed_5, refl, lasts (documents_are_networks Outcome Trees.bytes_8 _ Readings.reading_8))
+    (rational_5, completed_5, refl, lasts (documents_are_networks Judge Trees.bytes_8 _ Readings.reading_8))
     (only_completes (deal_firms asks_5) deal_trades (pos 1) [] (pos 5 ∷ []) rational_5 completed_5 only_5)
     refl refl
   where
-    lasts : IsDocument Outcome (Readings.deal_document asks_5 Readings.extra_8)
+    lasts : IsDocument Judge (Readings.deal_document asks_5 Readings.extra_8)
         → IsLastingOutcome (deal_firms asks_5) deal_trades (pos 1) []
     lasts is = completed_lasts (deal_firms asks_5) deal_trades (pos 1) [] (price_at (pos 5 ∷ [])) is.network is.extra
         completed_5.completes
@@ -128,11 +127,11 @@ case_10 : HasOneAnswer (Trees.numbered 10)
 unfolding answer_line escape_byte digits
 case_10 = one_answer (Trees.numbered 10) Judge (Readings.deal_document asks_3 Readings.extra_10)
     (Completes (pos 9 ∷ []) (pos 2)) refl Readings.reading_10
-    (rational_9, completed_9, refl, lasts (documents_are_networks Outcome Trees.bytes_10 _ Readings.reading_10))
+    (rational_9, completed_9, refl, lasts (documents_are_networks Judge Trees.bytes_10 _ Readings.reading_10))
     (only_completes (deal_firms asks_3) deal_trades (pos 2) at_9 (pos 9 ∷ []) rational_9 completed_9 only_9)
     refl refl
   where
-    lasts : IsDocument Outcome (Readings.deal_document asks_3 Readings.extra_10)
+    lasts : IsDocument Judge (Readings.deal_document asks_3 Readings.extra_10)
         → IsLastingOutcome (deal_firms asks_3) deal_trades (pos 2) at_9
     lasts is = completed_lasts (deal_firms asks_3) deal_trades (pos 2) at_9 (price_at (pos 9 ∷ [])) is.network is.extra
         completed_9.completes

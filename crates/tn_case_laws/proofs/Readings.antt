@@ -32,8 +32,8 @@ use Rattle.tn_read_parts.specs.Arranged.{on_of, trades_on_of, arrangement_of}
 use Rattle.tn_read_parts.specs.Signed.{over_at, outcome_of}
 use Rattle.tn_read_claims.specs.Claimed.{claim_of, blocks_of, kind_of as claim_kind}
 use Rattle.tn_read_claims.specs.Members.{claimed_contracts, one_offer}
-use Rattle.tn_file.specs.declared.need.Need.{Need}
-use Rattle.tn_file.specs.declared.need.Need.TheVariants.{Market, Raw, Arrangement, On, Outcome, Claim}
+use Rattle.tn_file.specs.declared.command.Command.{Command}
+use Rattle.tn_file.specs.declared.command.Command.TheVariants.{Check, Judge, Replay, Solve, Support, Test}
 use Rattle.tn_file.specs.Document.{DocumentData, ExtraData, nothing, arrangement, on_alone, outcome, claim, is_tested, extra_of, content_of, document_of, reading_of}
 use Rattle.tn_file.specs.Json.{json_of}
 use Rattle.tn_case_laws.proofs.Trees
@@ -44,12 +44,12 @@ use Rattle.tn_case_laws.proofs.Tested.{both_firms, both_trades, dealer_firms, de
 
 -- ---- the steps of a reading
 
-pub reading_by : (need : Need) (bytes : List ℕ) (top : Data) (listed : Listed) (items : Items) (firms : List Firm)
+pub reading_by : (command : Command) (bytes : List ℕ) (top : Data) (listed : Listed) (items : Items) (firms : List Firm)
     (extra : ExtraData) → json_of bytes ≡ Some top → listed_of top ≡ Ok (listed, items)
-    → each (one_firm (is_tested need top) listed) [] items ≡ Ok firms → extra_of need listed top ≡ Ok extra
-    → reading_of need bytes ≡ Ok (record { names = listed.names; firms = firms; ends = listed.ends; extra = extra })
+    → each (one_firm (is_tested command top) listed) [] items ≡ Ok firms → extra_of command listed top ≡ Ok extra
+    → reading_of command bytes ≡ Ok (record { names = listed.names; firms = firms; ends = listed.ends; extra = extra })
 unfolding reading_of document_of content_of
-reading_by need bytes top listed items firms extra a b c d = rw (a, b, c, d) refl
+reading_by command bytes top listed items firms extra a b c d = rw (a, b, c, d) refl
 
 -- a table that meets exchange passes the test
 passes : (trades : List Ends) (f : ℕ) (table : TableRows) → NoneFails (firm_of_table table)
@@ -128,13 +128,13 @@ unfolding listed_of limits_at limits_of object_of allows few_at each firm_name n
     firm_at one_trade sides_of
 listed_1 = refl
 
-extra_1_is : extra_of Arrangement deal_listed Trees.top_1 ≡ Ok extra_1
+extra_1_is : extra_of Check deal_listed Trees.top_1 ≡ Ok extra_1
 unfolding extra_of arrangement_of on_of trades_on_of object_of allows each one_on new_trade trade_at prices_of
     named_prices one_entry entry_of two_at number_in has toggle size size_below
 extra_1_is = refl
 
-pub reading_1 : reading_of Arrangement Trees.bytes_1 ≡ Ok (deal_document asks_3 extra_1)
-reading_1 = reading_by Arrangement Trees.bytes_1 Trees.top_1 deal_listed (deal_items (Trees.asks (negsuc 2)))
+pub reading_1 : reading_of Check Trees.bytes_1 ≡ Ok (deal_document asks_3 extra_1)
+reading_1 = reading_by Check Trees.bytes_1 Trees.top_1 deal_listed (deal_items (Trees.asks (negsuc 2)))
     (deal_firms asks_3) extra_1 Trees.tree_1 listed_1 firms_3 extra_1_is
 
 abbrev pub extra_2 : ExtraData
@@ -145,13 +145,13 @@ unfolding listed_of limits_at limits_of object_of allows few_at each firm_name n
     firm_at one_trade sides_of
 listed_2 = refl
 
-extra_2_is : extra_of Arrangement deal_listed Trees.top_2 ≡ Ok extra_2
+extra_2_is : extra_of Check deal_listed Trees.top_2 ≡ Ok extra_2
 unfolding extra_of arrangement_of on_of trades_on_of object_of allows each one_on new_trade trade_at prices_of
     named_prices one_entry entry_of two_at number_in has toggle size size_below
 extra_2_is = refl
 
-pub reading_2 : reading_of Arrangement Trees.bytes_2 ≡ Ok (deal_document asks_3 extra_2)
-reading_2 = reading_by Arrangement Trees.bytes_2 Trees.top_2 deal_listed (deal_items (Trees.asks (negsuc 2)))
+pub reading_2 : reading_of Check Trees.bytes_2 ≡ Ok (deal_document asks_3 extra_2)
+reading_2 = reading_by Check Trees.bytes_2 Trees.top_2 deal_listed (deal_items (Trees.asks (negsuc 2)))
     (deal_firms asks_3) extra_2 Trees.tree_2 listed_2 firms_3 extra_2_is
 
 abbrev pub extra_7 : ExtraData
@@ -162,13 +162,13 @@ unfolding listed_of limits_at limits_of object_of allows few_at each firm_name n
     firm_at one_trade sides_of
 listed_7 = refl
 
-extra_7_is : extra_of On deal_listed Trees.top_7 ≡ Ok extra_7
+extra_7_is : extra_of Support deal_listed Trees.top_7 ≡ Ok extra_7
 unfolding extra_of arrangement_of on_of trades_on_of object_of allows each one_on new_trade trade_at prices_of
     named_prices one_entry entry_of two_at number_in has toggle size size_below
 extra_7_is = refl
 
-pub reading_7 : reading_of On Trees.bytes_7 ≡ Ok (deal_document None extra_7)
-reading_7 = reading_by On Trees.bytes_7 Trees.top_7 deal_listed (deal_items []) (deal_firms None) extra_7 Trees.tree_7
+pub reading_7 : reading_of Support Trees.bytes_7 ≡ Ok (deal_document None extra_7)
+reading_7 = reading_by Support Trees.bytes_7 Trees.top_7 deal_listed (deal_items []) (deal_firms None) extra_7 Trees.tree_7
     listed_7 firms_none extra_7_is
 
 abbrev pub extra_8 : ExtraData
@@ -179,13 +179,13 @@ unfolding listed_of limits_at limits_of object_of allows few_at each firm_name n
     firm_at one_trade sides_of
 listed_8 = refl
 
-extra_8_is : extra_of Outcome deal_listed Trees.top_8 ≡ Ok extra_8
+extra_8_is : extra_of Judge deal_listed Trees.top_8 ≡ Ok extra_8
 unfolding extra_of outcome_of over_at contracts_at object_of allows each new_trade trade_at named_prices one_entry
     entry_of two_at number_in has toggle size size_below
 extra_8_is = refl
 
-pub reading_8 : reading_of Outcome Trees.bytes_8 ≡ Ok (deal_document asks_5 extra_8)
-reading_8 = reading_by Outcome Trees.bytes_8 Trees.top_8 deal_listed (deal_items (Trees.asks (negsuc 4)))
+pub reading_8 : reading_of Judge Trees.bytes_8 ≡ Ok (deal_document asks_5 extra_8)
+reading_8 = reading_by Judge Trees.bytes_8 Trees.top_8 deal_listed (deal_items (Trees.asks (negsuc 4)))
     (deal_firms asks_5) extra_8 Trees.tree_8 listed_8 firms_5 extra_8_is
 
 abbrev pub extra_9 : ExtraData
@@ -196,13 +196,13 @@ unfolding listed_of limits_at limits_of object_of allows few_at each firm_name n
     firm_at one_trade sides_of
 listed_9 = refl
 
-extra_9_is : extra_of Outcome deal_listed Trees.top_9 ≡ Ok extra_9
+extra_9_is : extra_of Judge deal_listed Trees.top_9 ≡ Ok extra_9
 unfolding extra_of outcome_of over_at contracts_at object_of allows each new_trade trade_at named_prices one_entry
     entry_of two_at number_in has toggle size size_below
 extra_9_is = refl
 
-pub reading_9 : reading_of Outcome Trees.bytes_9 ≡ Ok (deal_document asks_3 extra_9)
-reading_9 = reading_by Outcome Trees.bytes_9 Trees.top_9 deal_listed (deal_items (Trees.asks (negsuc 2)))
+pub reading_9 : reading_of Judge Trees.bytes_9 ≡ Ok (deal_document asks_3 extra_9)
+reading_9 = reading_by Judge Trees.bytes_9 Trees.top_9 deal_listed (deal_items (Trees.asks (negsuc 2)))
     (deal_firms asks_3) extra_9 Trees.tree_9 listed_9 firms_3 extra_9_is
 
 abbrev pub extra_10 : ExtraData
@@ -213,14 +213,14 @@ unfolding listed_of limits_at limits_of object_of allows few_at each firm_name n
     firm_at one_trade sides_of
 listed_10 = refl
 
-extra_10_is : extra_of Outcome deal_listed Trees.top_10 ≡ Ok extra_10
+extra_10_is : extra_of Judge deal_listed Trees.top_10 ≡ Ok extra_10
 unfolding extra_of outcome_of over_at contracts_at object_of allows each new_trade trade_at named_prices one_entry
     entry_of two_at number_in has toggle size size_below
 extra_10_is = refl
 
-pub reading_10 : reading_of Outcome Trees.bytes_10 ≡ Ok (deal_document asks_3 extra_10)
+pub reading_10 : reading_of Judge Trees.bytes_10 ≡ Ok (deal_document asks_3 extra_10)
 reading_10 =
-    reading_by Outcome Trees.bytes_10 Trees.top_10 deal_listed (deal_items (Trees.asks (negsuc 2))) (deal_firms asks_3)
+    reading_by Judge Trees.bytes_10 Trees.top_10 deal_listed (deal_items (Trees.asks (negsuc 2))) (deal_firms asks_3)
     extra_10 Trees.tree_10 listed_10 firms_3 extra_10_is
 
 abbrev pub extra_11 : ExtraData
@@ -231,14 +231,14 @@ unfolding listed_of limits_at limits_of object_of allows few_at each firm_name n
     firm_at one_trade sides_of
 listed_11 = refl
 
-extra_11_is : extra_of On deal_listed Trees.top_11 ≡ Ok extra_11
+extra_11_is : extra_of Support deal_listed Trees.top_11 ≡ Ok extra_11
 unfolding extra_of arrangement_of on_of trades_on_of object_of allows each one_on new_trade trade_at prices_of
     named_prices one_entry entry_of two_at number_in has toggle size size_below
 extra_11_is = refl
 
-pub reading_11 : reading_of On Trees.bytes_11 ≡ Ok (deal_document asks_3 extra_11)
+pub reading_11 : reading_of Support Trees.bytes_11 ≡ Ok (deal_document asks_3 extra_11)
 reading_11 =
-    reading_by On Trees.bytes_11 Trees.top_11 deal_listed (deal_items (Trees.asks (negsuc 2))) (deal_firms asks_3)
+    reading_by Support Trees.bytes_11 Trees.top_11 deal_listed (deal_items (Trees.asks (negsuc 2))) (deal_firms asks_3)
     extra_11 Trees.tree_11 listed_11 firms_3 extra_11_is
 
 abbrev pub extra_12 : ExtraData
@@ -249,15 +249,15 @@ unfolding listed_of limits_at limits_of object_of allows few_at each firm_name n
     firm_at one_trade sides_of
 listed_12 = refl
 
-extra_12_is : extra_of Claim deal_listed Trees.top_12 ≡ Ok extra_12
+extra_12_is : extra_of Replay deal_listed Trees.top_12 ≡ Ok extra_12
 unfolding extra_of claim_of claim_kind blocks_of claimed_contracts one_offer outcome_of over_at contracts_at object_of
     allows allows_in_claim each new_trade trade_at named_prices one_entry entry_of two_at number_in has toggle size
     size_below
 extra_12_is = refl
 
-pub reading_12 : reading_of Claim Trees.bytes_12 ≡ Ok (deal_document asks_3 extra_12)
+pub reading_12 : reading_of Replay Trees.bytes_12 ≡ Ok (deal_document asks_3 extra_12)
 reading_12 =
-    reading_by Claim Trees.bytes_12 Trees.top_12 deal_listed (deal_items (Trees.asks (negsuc 2))) (deal_firms asks_3)
+    reading_by Replay Trees.bytes_12 Trees.top_12 deal_listed (deal_items (Trees.asks (negsuc 2))) (deal_firms asks_3)
     extra_12 Trees.tree_12 listed_12 firms_3 extra_12_is
 
 -- ---- no trades
@@ -293,12 +293,12 @@ firms_idle = two_read (one_firm true idle_listed) idle_data idle_other (idle (So
     (table_read idle_listed (idle (Some (pos 7)) ∷ []) idle_other (idle_table None) refl refl refl
     (none_fails_from_exchange (idle None) idle_meets_none))
 
-extra_3_is : extra_of Market idle_listed Trees.top_3 ≡ Ok nothing
+extra_3_is : extra_of Solve idle_listed Trees.top_3 ≡ Ok nothing
 unfolding extra_of
 extra_3_is = refl
 
-pub reading_3 : reading_of Market Trees.bytes_3 ≡ Ok idle_document
-reading_3 = reading_by Market Trees.bytes_3 Trees.top_3 idle_listed (item idle_data (item idle_other no_items))
+pub reading_3 : reading_of Solve Trees.bytes_3 ≡ Ok idle_document
+reading_3 = reading_by Solve Trees.bytes_3 Trees.top_3 idle_listed (item idle_data (item idle_other no_items))
     idle_firms nothing Trees.tree_3 listed_3 firms_idle extra_3_is
 
 -- ---- networks that are read raw
@@ -328,12 +328,12 @@ unfolding listed_of limits_at limits_of few_at firm_name new_name name_at trade_
     own_position trade_at number_in has toggle size size_below
 firms_4_are = refl
 
-extra_4_is : extra_of Raw listed_at_4 Trees.top_4 ≡ Ok nothing
+extra_4_is : extra_of Test listed_at_4 Trees.top_4 ≡ Ok nothing
 unfolding extra_of
 extra_4_is = refl
 
-pub reading_4 : reading_of Raw Trees.bytes_4 ≡ Ok document_4
-reading_4 = reading_by Raw Trees.bytes_4 Trees.top_4 listed_at_4 (items_of Trees.firms_4) both_firms nothing
+pub reading_4 : reading_of Test Trees.bytes_4 ≡ Ok document_4
+reading_4 = reading_by Test Trees.bytes_4 Trees.top_4 listed_at_4 (items_of Trees.firms_4) both_firms nothing
     Trees.tree_4 listed_4 firms_4_are extra_4_is
 
 abbrev pub listed_at_5 : Listed
@@ -362,12 +362,12 @@ unfolding listed_of limits_at limits_of few_at firm_name new_name name_at trade_
     own_position trade_at number_in has toggle size size_below
 firms_5_are = refl
 
-extra_5_is : extra_of Raw listed_at_5 Trees.top_5 ≡ Ok nothing
+extra_5_is : extra_of Test listed_at_5 Trees.top_5 ≡ Ok nothing
 unfolding extra_of
 extra_5_is = refl
 
-pub reading_5 : reading_of Raw Trees.bytes_5 ≡ Ok document_5
-reading_5 = reading_by Raw Trees.bytes_5 Trees.top_5 listed_at_5 (items_of Trees.firms_5) dealer_firms nothing
+pub reading_5 : reading_of Test Trees.bytes_5 ≡ Ok document_5
+reading_5 = reading_by Test Trees.bytes_5 Trees.top_5 listed_at_5 (items_of Trees.firms_5) dealer_firms nothing
     Trees.tree_5 listed_5 firms_5_are extra_5_is
 
 abbrev pub listed_at_6 : Listed
@@ -399,10 +399,10 @@ unfolding listed_of limits_at limits_of few_at firm_name new_name name_at trade_
     own_position trade_at number_in has toggle size size_below
 firms_6_are = refl
 
-extra_6_is : extra_of Raw listed_at_6 Trees.top_6 ≡ Ok nothing
+extra_6_is : extra_of Test listed_at_6 Trees.top_6 ≡ Ok nothing
 unfolding extra_of
 extra_6_is = refl
 
-pub reading_6 : reading_of Raw Trees.bytes_6 ≡ Ok document_6
-reading_6 = reading_by Raw Trees.bytes_6 Trees.top_6 listed_at_6 (items_of Trees.firms_6) tied_firms nothing
+pub reading_6 : reading_of Test Trees.bytes_6 ≡ Ok document_6
+reading_6 = reading_by Test Trees.bytes_6 Trees.top_6 listed_at_6 (items_of Trees.firms_6) tied_firms nothing
     Trees.tree_6 listed_6 firms_6_are extra_6_is

@@ -2,11 +2,11 @@
 use Rattle.std.proofs.Common.{◌≤◌, length, arith}
 use Rattle.tn_model.specs.Limits.{AreLimits, most_firms, most_trades}
 use Rattle.tn_model.proofs.LimitLemmas.{limits_are}
-use Rattle.tn_file.specs.declared.need.Need.{Need}
+use Rattle.tn_file.specs.declared.command.Command.{Command}
 use Rattle.tn_file.specs.Document.{DocumentData}
 use Rattle.tn_file.specs.Laws.{IsDocument}
 
-module _ (need : Need) (doc : DocumentData) (is : IsDocument need doc) where
+module _ (command : Command) (doc : DocumentData) (is : IsDocument command doc) where
   pub its_limits_are : AreLimits is.limits
   its_limits_are = limits_are is.version is.limits is.limits_are
 

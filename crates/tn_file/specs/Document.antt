@@ -9,8 +9,8 @@ use Rattle.tn_model.specs.declared.ends.Ends.{Ends}
 use Rattle.tn_said.specs.declared.said.Fault.{Fault}
 use Rattle.tn_said.specs.declared.session.Edit.{Edit}
 use Rattle.tn_names.specs.Names.{NameLists, no_names}
-use Rattle.tn_file.specs.declared.need.Need.{Need}
-use Rattle.tn_file.specs.declared.need.Need.TheVariants.{Market, Raw, Arrangement, RawArrangement, On, Outcome, Edits, Claim}
+use Rattle.tn_file.specs.declared.command.Command.{Command}
+use Rattle.tn_file.specs.declared.command.Command.TheVariants.{Check, Firms, Judge, Range, Replay, Session, Solve, Support, Test}
 use Rattle.tn_read_references.specs.Ordered.{Listed}
 use Rattle.tn_read_head.specs.Beside.{Stop, with_names}
 use Rattle.tn_read_shapes.specs.Reading.{◌>>=◌, each, wanted}
@@ -22,7 +22,7 @@ use Rattle.tn_read_parts.specs.Edited.{edits_of}
 use Rattle.tn_read_claims.specs.Claimed.{claim_of, claims_raw, is_raw_kind, kind_is}
 use Rattle.tn_read_head.specs.Listing.{listed_of}
 
--- what a command reads beside the network
+-- what is read beside the network
 pub data ExtraData : Type 0 where
   nothing : ExtraData
   arrangement : Arranged → ExtraData
@@ -34,84 +34,53 @@ pub data ExtraData : Type 0 where
 
 -- each firm is to meet exchange, unless the network is read raw, as it is for a claim on exchange, and for the
 -- one that there are no prices
-abbrev pub is_tested : Need → Data → Bool
-is_tested Market top = true
-is_tested Raw top = false
-is_tested Arrangement top = true
-is_tested RawArrangement top = false
-is_tested On top = true
-is_tested Outcome top = true
-is_tested Edits top = true
-is_tested Claim top = not (claims_raw top)
+abbrev pub is_tested : Command → Data → Bool
+is_tested Firms top = false
+is_tested Replay top = not (claims_raw top)
+is_tested Test top = false
+is_tested command top = true
 
 -- whether a claim was read that is made of firms which meet exchange
 abbrev pub claims_market : ExtraData → Bool
-claims_market nothing = false
-claims_market (arrangement part) = false
-claims_market (on_alone on) = false
-claims_market (outcome signed) = false
-claims_market (edits listed) = false
 claims_market (claim read) = not (is_raw_kind (kind_is read))
+claims_market extra = false
 
--- each firm has met exchange, by the need and what was read beside the network
-abbrev pub is_accepted : Need → ExtraData → Bool
-is_accepted Market extra = true
-is_accepted Raw extra = false
-is_accepted Arrangement extra = true
-is_accepted RawArrangement extra = false
-is_accepted On extra = true
-is_accepted Outcome extra = true
-is_accepted Edits extra = true
-is_accepted Claim extra = claims_market extra
+-- each firm has met exchange, by the command and what was read beside the network
+abbrev pub is_accepted : Command → ExtraData → Bool
+is_accepted Firms extra = false
+is_accepted Replay extra = claims_market extra
+is_accepted Test extra = false
+is_accepted command extra = true
 
--- there is the part that the need names, and no other
-abbrev pub IsPartFor : Need → ExtraData → Type 0
-IsPartFor Market nothing = Unit {0}
-IsPartFor Raw nothing = Unit {0}
-IsPartFor Arrangement (arrangement part) = Unit {0}
-IsPartFor RawArrangement (arrangement part) = Unit {0}
-IsPartFor On (on_alone on) = Unit {0}
-IsPartFor Outcome (outcome signed) = Unit {0}
-IsPartFor Edits (edits listed) = Unit {0}
-IsPartFor Claim (claim read) = Unit {0}
-IsPartFor need extra = ⊥
-
--- what may be read beside firms as they are listed
-abbrev pub IsBesideRaw : ExtraData → Type 0
-IsBesideRaw nothing = Unit {0}
-IsBesideRaw (arrangement part) = Unit {0}
-IsBesideRaw (on_alone on) = ⊥
-IsBesideRaw (outcome signed) = ⊥
-IsBesideRaw (edits listed) = ⊥
-IsBesideRaw (claim read) = Unit {0}
-
-unfoldable pub extra_of : Need → Listed → Data → Result ExtraData Fault
-extra_of Market listed top = Ok nothing
-extra_of Raw listed top = Ok nothing
-extra_of Arrangement listed top = do
+-- what a command reads beside the network
+unfoldable pub extra_of : Command → Listed → Data → Result ExtraData Fault
+extra_of Check listed top = do
   arranged ← arrangement_of listed top
   Ok (arrangement arranged)
-extra_of RawArrangement listed top = do
+extra_of Firms listed top = do
   arranged ← arrangement_of listed top
   Ok (arrangement arranged)
-extra_of On listed top = do
-  on ← trades_on_of listed.names.trades top
-  Ok (on_alone on)
-extra_of Outcome listed top = do
+extra_of Judge listed top = do
   signed ← outcome_of listed top
   Ok (outcome signed)
-extra_of Edits listed top = do
-  changes ← edits_of listed top
-  Ok (edits changes)
-extra_of Claim listed top = do
+extra_of Range listed top = Ok nothing
+extra_of Replay listed top = do
   read ← claim_of listed top
   Ok (claim read)
+extra_of Session listed top = do
+  changes ← edits_of listed top
+  Ok (edits changes)
+extra_of Solve listed top = Ok nothing
+extra_of Support listed top = do
+  on ← trades_on_of listed.names.trades top
+  Ok (on_alone on)
+extra_of Test listed top = Ok nothing
 
 -- the firms that are listed, and then the extra part
-unfoldable pub content_of : Need → Listed → Items → Data → Result (List Firm × ExtraData) Fault
-content_of need listed items top = do
-  firms ← each (one_firm (is_tested need top) listed) [] items
-  extra ← extra_of need listed top
+unfoldable pub content_of : Command → Listed → Items → Data → Result (List Firm × ExtraData) Fault
+content_of command listed items top = do
+  firms ← each (one_firm (is_tested command top) listed) [] items
+  extra ← extra_of command listed top
   Ok (firms, extra)
 
 -- firms, the ends of the trades in file order, and what is read beside them
@@ -129,18 +98,18 @@ pub record DocumentData : Type 0 where
   pub extra : ExtraData
 
 -- the document with this head, and this list of firms
-abbrev pub document_in : Need → Listed → Items → Data → Result DocumentData Stop
-document_in need listed items top = do
-  content ← with_names listed.names (content_of need listed items top)
+abbrev pub document_in : Command → Listed → Items → Data → Result DocumentData Stop
+document_in command listed items top = do
+  content ← with_names listed.names (content_of command listed items top)
   Ok (record { names = listed.names; firms = content.0; ends = listed.ends; extra = content.1 })
 
-unfoldable pub document_of : Need → Data → Result DocumentData Stop
-document_of need top = do
+unfoldable pub document_of : Command → Data → Result DocumentData Stop
+document_of command top = do
   network ← listed_of top
-  document_in need network.0 network.1 top
+  document_in command network.0 network.1 top
 
 -- the reading of bytes
-unfoldable pub reading_of : Need → List ℕ → Result DocumentData Stop
-reading_of need bytes = do
+unfoldable pub reading_of : Command → List ℕ → Result DocumentData Stop
+reading_of command bytes = do
   top ← with_names no_names (wanted NotJson [] (json_of bytes))
-  document_of need top
+  document_of command top

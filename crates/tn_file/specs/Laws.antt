@@ -13,7 +13,7 @@ use Rattle.tn_model.specs.declared.ends.Ends.{Ends}
 use Rattle.tn_model.specs.declared.limits.Limits.{Limits}
 use Rattle.tn_model.specs.Network.{IsNetwork, HaveAscendingPositions}
 use Rattle.tn_names.specs.Names.{IsNameList}
-use Rattle.tn_file.specs.declared.need.Need.{Need}
+use Rattle.tn_file.specs.declared.command.Command.{Command}
 use Rattle.tn_read_head.specs.Beside.{Stop, IsStop}
 use Rattle.tn_file.specs.Json.{json_of}
 use Rattle.tn_file.specs.Document.{DocumentData, ExtraData, nothing, arrangement, on_alone, outcome, edits, claim, is_accepted, reading_of}
@@ -36,7 +36,7 @@ KeepsLimits limits (edits listed) = length listed ≤ limits.edits
 KeepsLimits limits (claim read) = KeepsClaimLimits limits read
 KeepsLimits limits extra = Unit {0}
 
-pub record IsDocument (need : Need) (doc : DocumentData) : Type 0 where
+pub record IsDocument (command : Command) (doc : DocumentData) : Type 0 where
   -- different names that keep the rule, one for each firm and one for each trade
   pub firm_names : IsNameList doc.names.firms
   pub trade_names : IsNameList doc.names.trades
@@ -59,7 +59,7 @@ pub record IsDocument (need : Need) (doc : DocumentData) : Type 0 where
   pub own_bundles : (f : ℕ) (firm : Firm) → slice_get doc.firms f ≡ Some firm → HasOwnBundles firm
   pub abstain : (f : ℕ) (firm : Firm) → slice_get doc.firms f ≡ Some firm → MayAbstain firm
   -- a market may be made of the firms, unless the network is read raw: each meets exchange
-  pub accepted : is_accepted need doc.extra ≡ true → AreAccepted doc.firms
+  pub accepted : is_accepted command doc.extra ≡ true → AreAccepted doc.firms
   pub extra : IsExtra doc.firms doc.ends doc.extra
   pub extra_keeps : KeepsLimits limits doc.extra
 
@@ -70,20 +70,21 @@ pub record SaysVersion (bytes : List ℕ) (version : ℕ) : Type 0 where
   pub says : option_and_then as_u64 (option_and_then as_number (get (codes "version") top)) ≡ Some version
 
 -- a document, within the limits of the version that its bytes say
-pub record IsDocumentOf (need : Need) (bytes : List ℕ) (doc : DocumentData) : Type 0 where
-  pub document : IsDocument need doc
+pub record IsDocumentOf (command : Command) (bytes : List ℕ) (doc : DocumentData) : Type 0 where
+  pub document : IsDocument command doc
   pub version : SaysVersion bytes document.version
 
 -- every document that is read is one
 abbrev pub DocumentsAreNetworks : Type 0
-DocumentsAreNetworks = (need : Need) (bytes : List ℕ) (doc : DocumentData) → reading_of need bytes ≡ Ok doc
-    → IsDocumentOf need bytes doc
+DocumentsAreNetworks = (command : Command) (bytes : List ℕ) (doc : DocumentData) → reading_of command bytes ≡ Ok doc
+    → IsDocumentOf command bytes doc
 
 -- wherever reading stops, its fault and the names beside it keep the rules of a stop
 abbrev pub FaultsAreSayable : Type 0
-FaultsAreSayable = (need : Need) (bytes : List ℕ) (stop : Stop) → reading_of need bytes ≡ Err stop → IsStop stop
+FaultsAreSayable = (command : Command) (bytes : List ℕ) (stop : Stop) → reading_of command bytes ≡ Err stop
+    → IsStop stop
 
 -- no byte of an input that is too long is read: wherever reading stops, it isn't for that
 abbrev pub ReadingsAreNeverTooLong : Type 0
-ReadingsAreNeverTooLong = (need : Need) (bytes : List ℕ) (stop : Stop) → reading_of need bytes ≡ Err stop
+ReadingsAreNeverTooLong = (command : Command) (bytes : List ℕ) (stop : Stop) → reading_of command bytes ≡ Err stop
     → stop.fault.kind ≢ TooLong

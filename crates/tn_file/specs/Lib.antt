@@ -1,7 +1,8 @@
 -- The files of definitions of this crate.
 pub mod Json
 pub mod Document
-pub mod Extra
+pub mod Asked
 pub mod RawData
+pub mod Parts
 pub mod Refusal
 pub mod Laws

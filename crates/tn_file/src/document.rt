@@ -1,6 +1,6 @@
 //! A document that is read.
 
-use crate::extra::{Extra, RawExtra};
+use crate::asked::{Asked, RawAsked};
 use std::alloc::Global;
 use std::marker::Model;
 use tn_base::{Bundle, OutOfMemory};
@@ -15,7 +15,7 @@ use tn_read_firms::own_option;
 pub struct Document {
     /// The names of the firms and of the trades.
     pub names: Names,
-    /// The network, and what is needed beside it.
+    /// The network, and what is asked about it.
     pub content: Content,
 }
 
@@ -32,13 +32,13 @@ impl Document {
     }
 }
 
-/// The network of a document, with what is needed beside it.
+/// The network of a document, with what is asked about it.
 #[derive(Drop)]
 pub enum Content {
     /// Firms that meet exchange, and the trades between them.
-    Market(Market<FirmValue>, Extra),
+    Market(Market<FirmValue>, Asked),
     /// Firms as they are listed.
-    Raw(RawNet, RawExtra),
+    Raw(RawNet, RawAsked),
 }
 
 /// Firms as they are listed, each of which can be tested, and the two ends of each trade.

@@ -3,17 +3,17 @@
 //! below.
 #![tactic(auto)]
 
+mod asked;
+mod command;
 mod document;
-mod extra;
 mod laws;
-mod need;
 mod network;
 mod read;
 
+pub use asked::{Asked, RawAsked};
+pub use command::Command;
 pub use document::{Content, Document, RawNet};
-pub use extra::{Extra, RawExtra};
 pub use laws::{documents_are_networks, faults_are_sayable, readings_are_never_too_long};
-pub use need::Need;
 pub use read::read_doc;
 pub use tn_read_claims::{claims_are_within, claims_keep_limits, raw_claims_are_told};
 pub use tn_read_firms::first_failures_are_first;

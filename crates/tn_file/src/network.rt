@@ -1,93 +1,66 @@
 //! Reads a document from a JSON value.
 
-ghost use Rattle.std.specs.Prelude.{◌≡◌, [], length, map, true, false, All, IfOk, Ok};
+ghost use Rattle.std.specs.Prelude.{◌≡◌, length, IfOk};
 ghost use Rattle.serde_json.specs.View.{view, items_view};
-ghost use Rattle.tn_read_shapes.specs.Reading.{Gives, each};
+ghost use Rattle.tn_read_shapes.specs.Reading.{Gives};
 ghost use Rattle.tn_read_references.specs.Ordered.{AreTrades};
 ghost use Rattle.tn_read_head.specs.Refused.{Reads, refusal_of};
-ghost use Rattle.tn_read_firms.specs.Firms.{one_firm};
-ghost use Rattle.tn_file.specs.Document.{IsPartFor, content_of, document_in, document_of, is_accepted, is_tested};
-ghost use Rattle.tn_file.specs.Extra.{extra_view};
+ghost use Rattle.tn_file.specs.Document.{content_of, document_of};
+ghost use Rattle.tn_file.specs.Parts.{AreFor, parts_view};
 ghost use Rattle.tn_file.specs.Refusal.{IsFor, document_view};
 
+use crate::asked::{Asked, RawAsked};
+use crate::command::Command;
 use crate::document::{Content, Document, RawNet};
-use crate::extra::{Extra, beside_raw, read_extra};
-use crate::need::Need;
 use serde_json::Value;
 use std::alloc::Global;
 use tn_firm::{FirmValue, RawFirm};
 use tn_market::Market;
-use tn_read_claims::claims_raw;
-use tn_read_firms::{FromKinds, read_firms};
+use tn_read_claims::{claims_raw, read_claim};
+use tn_read_firms::read_firms;
 use tn_read_head::{DocRefusal, read_head};
+use tn_read_parts::{read_arrangement, read_edits, read_outcome, read_trades_on};
 use tn_read_references::Head;
 use tn_read_shapes::ReadError;
 
-/// Reads a document.
-#[tactic(auto, unfolding(crate::specs::Document::document_of))]
-pub(crate) fn read_document(alloc: Global, need: Need, top: &Value) -> Result<Document, DocRefusal>
-    ensures exact { Reads document_view result (document_of need (view top.now)) }
-    ensures needed { IfOk result (λ doc. IsFor need doc.content) }
-{
-    let (head, firms) = read_head(alloc, top)?;
-    if is_tested(need, top) {
-        read_market(alloc, need, head, firms, top)
-    } else {
-        read_raw(alloc, need, head, firms, top)
-    }
+/// What stands in a document behind its head: the firms, and what is asked about them.
+#[derive(Drop)]
+pub(crate) enum Parts {
+    /// Firms that meet exchange.
+    Market(Vec<FirmValue>, Asked),
+    /// Firms as they are listed.
+    Raw(Vec<RawFirm>, RawAsked),
 }
 
-/// Reads the firms, which are to meet exchange, and what is needed beside them.
-fn read_market(
+/// Reads a document.
+#[tactic(auto, unfolding(crate::specs::Document::document_of))]
+pub(crate) fn read_document(
     alloc: Global,
-    need: Need,
-    head: Head,
-    firms: &[Value],
+    command: Command,
     top: &Value,
 ) -> Result<Document, DocRefusal>
-    requires trades { AreTrades head }
-    requires count { length head.names.firms ≡ length firms.now }
-    requires tested { is_tested need (view top.now) ≡ true }
-    ensures exact { Reads document_view result (document_in need head (items_view firms.now) (view top.now)) }
-    ensures needed { IfOk result (λ doc. IsFor need doc.content) }
+    ensures exact { Reads document_view result (document_of command (view top.now)) }
+    ensures needed { IfOk result (λ doc. IsFor command doc.content) }
 {
-    match read_content::<FirmValue>(alloc, need, &head, firms, top) {
-        Ok((made, extra)) => {
+    let (head, firms) = read_head(alloc, top)?;
+    match read_parts(alloc, command, &head, firms, top) {
+        Ok(Parts::Market(made, asked)) => {
             let (names, ends) = head.into_parts();
             match Market::new(alloc, made, ends) {
                 Ok(market) => Ok(Document {
                     names,
-                    content: Content::Market(market, extra),
+                    content: Content::Market(market, asked),
                 }),
                 Err(error) => {
-                    drop(extra);
+                    drop(asked);
                     drop(names);
                     Err(DocRefusal::from(error))
                 }
             }
         }
-        Err(error) => Err(refused(head, error)),
-    }
-}
-
-/// Reads the firms, whether they meet exchange or not, and what is needed beside them.
-fn read_raw(
-    alloc: Global,
-    need: Need,
-    head: Head,
-    firms: &[Value],
-    top: &Value,
-) -> Result<Document, DocRefusal>
-    requires trades { AreTrades head }
-    requires count { length head.names.firms ≡ length firms.now }
-    requires raw { is_tested need (view top.now) ≡ false }
-    ensures exact { Reads document_view result (document_in need head (items_view firms.now) (view top.now)) }
-    ensures needed { IfOk result (λ doc. IsFor need doc.content) }
-{
-    match read_content::<RawFirm>(alloc, need, &head, firms, top) {
-        Ok((made, extra)) => {
+        Ok(Parts::Raw(made, asked)) => {
             let (names, ends) = head.into_parts();
-            let content = Content::Raw(RawNet::new(made, ends), beside_raw(extra));
+            let content = Content::Raw(RawNet::new(made, ends), asked);
             Ok(Document { names, content })
         }
         Err(error) => Err(refused(head, error)),
@@ -102,38 +75,55 @@ fn refused(head: Head, error: ReadError) -> DocRefusal
     DocRefusal::beside(error, names)
 }
 
-/// Whether each firm is to meet exchange.
-fn is_tested(need: Need, top: &Value) -> bool
-    ensures { result ≡ is_tested need (view top.now) }
-{
-    match need {
-        Need::Raw | Need::RawArrangement => false,
-        Need::Market | Need::Arrangement | Need::On | Need::Outcome | Need::Edits => true,
-        Need::Claim => !claims_raw(top),
-    }
-}
-
-/// Reads the firms, and then what is needed beside them.
-#[tactic(auto, unfolding(crate::specs::Document::content_of))]
-fn read_content<F: FromKinds + Drop>(
+/// The firms, and then the part of the document that the command speaks of.
+#[tactic(auto, unfolding(crate::specs::Document::content_of, crate::specs::Document::extra_of))]
+fn read_parts(
     alloc: Global,
-    need: Need,
+    command: Command,
     head: &Head,
     firms: &[Value],
     top: &Value,
-) -> Result<(Vec<F>, Extra), ReadError>
+) -> Result<Parts, ReadError>
     requires trades { AreTrades head.now }
     requires count { length head.now.names.firms ≡ length firms.now }
-    requires tested { is_tested need (view top.now) ≡ F.tested }
-    ensures gives { Gives (λ p. (map F.firm p.0.items, extra_view p.1)) result
-        (content_of need head.now (items_view firms.now) (view top.now)) }
-    ensures firms { IfOk result
-        (λ p. each (one_firm F.tested head.now) [] (items_view firms.now) ≡ Ok (map F.firm p.0.items)) }
-    ensures part { IfOk result (λ p. IsPartFor need (extra_view p.1)) }
-    ensures accepted { IfOk result (λ p. is_accepted need (extra_view p.1) ≡ F.tested) }
-    ensures known { IfOk result (λ p. All F.known p.0.items) }
+    ensures gives { Gives parts_view result (content_of command head.now (items_view firms.now) (view top.now)) }
+    ensures asked { IfOk result (AreFor command) }
 {
-    let made = read_firms::<F>(alloc, head, firms)?;
-    let extra = read_extra(alloc, need, head, top)?;
-    Ok((made, extra))
+    match command {
+        Command::Check => {
+            let made = read_firms(alloc, head, firms)?;
+            Ok(Parts::Market(made, Asked::Check(read_arrangement(alloc, head, top)?)))
+        }
+        Command::Firms => {
+            let made = read_firms(alloc, head, firms)?;
+            Ok(Parts::Raw(made, RawAsked::Firms(read_arrangement(alloc, head, top)?)))
+        }
+        Command::Judge => {
+            let made = read_firms(alloc, head, firms)?;
+            let outcome = read_outcome(alloc, head, top)?;
+            Ok(Parts::Market(made, Asked::Judge(outcome)))
+        }
+        Command::Range => Ok(Parts::Market(read_firms(alloc, head, firms)?, Asked::Range)),
+        Command::Replay => {
+            if claims_raw(top) {
+                let made = read_firms(alloc, head, firms)?;
+                let claim = read_claim(alloc, head, top)?;
+                Ok(Parts::Raw(made, RawAsked::Replay(claim)))
+            } else {
+                let made = read_firms(alloc, head, firms)?;
+                let claim = read_claim(alloc, head, top)?;
+                Ok(Parts::Market(made, Asked::Replay(claim)))
+            }
+        }
+        Command::Session => {
+            let made = read_firms(alloc, head, firms)?;
+            Ok(Parts::Market(made, Asked::Session(read_edits(alloc, head, top)?)))
+        }
+        Command::Solve => Ok(Parts::Market(read_firms(alloc, head, firms)?, Asked::Solve)),
+        Command::Support => {
+            let made = read_firms(alloc, head, firms)?;
+            Ok(Parts::Market(made, Asked::Support(read_trades_on(alloc, head, top)?)))
+        }
+        Command::Test => Ok(Parts::Raw(read_firms(alloc, head, firms)?, RawAsked::Test)),
+    }
 }

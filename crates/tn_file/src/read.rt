@@ -10,8 +10,8 @@ ghost use Rattle.tn_file.specs.Json.{json_of};
 ghost use Rattle.tn_file.specs.Laws.{IsDocument};
 ghost use Rattle.tn_file.specs.Refusal.{IsFor, document_view};
 
+use crate::command::Command;
 use crate::document::Document;
-use crate::need::Need;
 use crate::network::read_document;
 use serde_json::Value;
 use std::alloc::Global;
@@ -21,23 +21,23 @@ use tn_read_shapes::{ReadError, fault};
 use tn_said::FaultKind;
 
 /// Reads a document from its bytes: what they stand for, or the first fault.
-pub fn read_doc(alloc: Global, need: Need, bytes: &[u8]) -> Result<Document, DocRefusal>
-    ensures exact { Reads document_view result (reading_of need bytes.now) }
+pub fn read_doc(alloc: Global, command: Command, bytes: &[u8]) -> Result<Document, DocRefusal>
+    ensures exact { Reads document_view result (reading_of command bytes.now) }
     // A network with its names, whose firms are accepted unless it is read raw.
-    ensures network { IfOk result (λ doc. IsDocument need (document_view doc)) }
-    ensures needed { IfOk result (λ doc. IsFor need doc.content) }
+    ensures network { IfOk result (λ doc. IsDocument command (document_view doc)) }
+    ensures needed { IfOk result (λ doc. IsFor command doc.content) }
 {
-    read_bytes(alloc, need, bytes)
+    read_bytes(alloc, command, bytes)
 }
 
 /// Reads a document from its bytes.
 #[tactic(auto, unfolding(crate::specs::Document::reading_of))]
-fn read_bytes(alloc: Global, need: Need, bytes: &[u8]) -> Result<Document, DocRefusal>
-    ensures exact { Reads document_view result (reading_of need bytes.now) }
-    ensures needed { IfOk result (λ doc. IsFor need doc.content) }
+fn read_bytes(alloc: Global, command: Command, bytes: &[u8]) -> Result<Document, DocRefusal>
+    ensures exact { Reads document_view result (reading_of command bytes.now) }
+    ensures needed { IfOk result (λ doc. IsFor command doc.content) }
 {
     match value_of(alloc, bytes) {
-        Ok(top) => read_document(alloc, need, &top),
+        Ok(top) => read_document(alloc, command, &top),
         Err(error) => Err(DocRefusal::beside(error, Names::empty(alloc))),
     }
 }

@@ -21,8 +21,8 @@ use Rattle.tn_read_head.specs.Beside.{Stop, with_names}
 use Rattle.tn_read_head.specs.Listing.{limits_at, listed_of}
 use Rattle.tn_read_head.specs.Naming.{one_firm_name, one_trade}
 use Rattle.tn_read_firms.specs.Firms.{one_firm}
-use Rattle.tn_file.specs.declared.need.Need.{Need}
-use Rattle.tn_file.specs.declared.need.Need.TheVariants.{Market, Raw, Arrangement, RawArrangement, On, Outcome, Edits, Claim}
+use Rattle.tn_file.specs.declared.command.Command.{Command}
+use Rattle.tn_file.specs.declared.command.Command.TheVariants.{Check, Firms, Judge, Range, Replay, Session, Solve, Support, Test}
 use Rattle.tn_file.specs.Document.{DocumentData, content_of, document_in, document_of, extra_of, is_tested}
 use Rattle.tn_replay_laws.proofs.Frame.{allows_put, apart}
 use Rattle.tn_format_laws.specs.Versions.{MeetButForLimits, ReadingsMeetButForLimits, with_version}
@@ -40,55 +40,60 @@ record IsSameHead (x y : Listed × Items) : Type 0 where
 module _ (top other : Data) (alike : (key : List ℕ) → bytes_eq key (codes "version") ≡ false
     → get key top ≡ get key other) where
   module _ (names : NameLists) (ends : List Ends) (a b : Limits) where
-    extra_agrees : (need : Need)
-        → Agree (extra_of need (here names ends a b) top) (extra_of need (there names ends a b) other)
+    extra_agrees : (command : Command)
+        → Agree (extra_of command (here names ends a b) top) (extra_of command (there names ends a b) other)
     unfolding extra_of
-    extra_agrees Market = same _
-    extra_agrees Raw = same _
-    extra_agrees Arrangement = next _ _ _ _ (arrangement_agrees names ends a b top other alike) (λ part. same _)
-    extra_agrees RawArrangement = next _ _ _ _ (arrangement_agrees names ends a b top other alike) (λ part. same _)
-    extra_agrees On = next _ _ _ _ (on_agrees names ends a b top other alike) (λ on. same _)
-    extra_agrees Outcome = next _ _ _ _ (outcome_agrees names ends a b top other alike) (λ signed. same _)
-    extra_agrees Edits = next _ _ _ _ (edits_agree names ends a b top other alike) (λ changes. same _)
-    extra_agrees Claim = next _ _ _ _ (claim_agrees names ends a b top other alike) (λ read. same _)
+    extra_agrees Check = next _ _ _ _ (arrangement_agrees names ends a b top other alike) (λ part. same _)
+    extra_agrees Firms = next _ _ _ _ (arrangement_agrees names ends a b top other alike) (λ part. same _)
+    extra_agrees Judge = next _ _ _ _ (outcome_agrees names ends a b top other alike) (λ signed. same _)
+    extra_agrees Range = same _
+    extra_agrees Replay = next _ _ _ _ (claim_agrees names ends a b top other alike) (λ read. same _)
+    extra_agrees Session = next _ _ _ _ (edits_agree names ends a b top other alike) (λ changes. same _)
+    extra_agrees Solve = same _
+    extra_agrees Support = next _ _ _ _ (on_agrees names ends a b top other alike) (λ on. same _)
+    extra_agrees Test = same _
 
-    tested_alike : (need : Need) → is_tested need top ≡ is_tested need other
-    tested_alike Market = refl
-    tested_alike Raw = refl
-    tested_alike Arrangement = refl
-    tested_alike RawArrangement = refl
-    tested_alike On = refl
-    tested_alike Outcome = refl
-    tested_alike Edits = refl
-    tested_alike Claim = rw (alike (codes "claim") refl)
+    tested_alike : (command : Command) → is_tested command top ≡ is_tested command other
+    tested_alike Check = refl
+    tested_alike Firms = refl
+    tested_alike Judge = refl
+    tested_alike Range = refl
+    tested_alike Replay = rw (alike (codes "claim") refl)
+    tested_alike Session = refl
+    tested_alike Solve = refl
+    tested_alike Support = refl
+    tested_alike Test = refl
 
-    content_agrees : (need : Need) (items : Items)
-        → Agree (content_of need (here names ends a b) items top) (content_of need (there names ends a b) items other)
+    content_agrees : (command : Command) (items : Items)
+        → Agree (content_of command (here names ends a b) items top)
+        (content_of command (there names ends a b) items other)
     unfolding content_of
-    content_agrees need items =
-        next _ _ _ _ (subst (λ tested. Agree (each (one_firm (is_tested need top) (here names ends a b)) [] items)
-        (each (one_firm tested (there names ends a b)) [] items)) (tested_alike need)
-        (firms_agree names ends a b (is_tested need top) items)) (λ firms.
-        next _ _ _ _ (extra_agrees need) (λ extra. same _))
+    content_agrees command items =
+        next _ _ _ _ (subst (λ tested. Agree (each (one_firm (is_tested command top) (here names ends a b)) [] items)
+        (each (one_firm tested (there names ends a b)) [] items)) (tested_alike command)
+        (firms_agree names ends a b (is_tested command top) items)) (λ firms.
+        next _ _ _ _ (extra_agrees command) (λ extra. same _))
 
-    document_meets : (need : Need) (items : Items)
-        → Meet StopOfLimit (λ x y. x ≡ y) (document_in need (here names ends a b) items top)
-        (document_in need (there names ends a b) items other)
-    document_meets need items =
-        meet_next StopOfLimit (λ x y. x ≡ y) _ _ _ _ (beside names _ _ (content_agrees need items))
+    document_meets : (command : Command) (items : Items)
+        → Meet StopOfLimit (λ x y. x ≡ y) (document_in command (here names ends a b) items top)
+        (document_in command (there names ends a b) items other)
+    document_meets command items =
+        meet_next StopOfLimit (λ x y. x ≡ y) _ _ _ _ (beside names _ _ (content_agrees command items))
         (λ content. meet_same StopOfLimit _)
 
-  heads_meet : (need : Need) (x y : Listed × Items) → IsSameHead x y
-      → Meet StopOfLimit (λ doc other_doc. doc ≡ other_doc) (document_in need x.0 x.1 top)
-      (document_in need y.0 y.1 other)
-  heads_meet need x y head =
-      subst (λ items. Meet StopOfLimit (λ doc other_doc. doc ≡ other_doc) (document_in need x.0 x.1 top)
-      (document_in need y.0 items other)) head.items
-      (subst (λ (ends : List Ends). Meet StopOfLimit (λ doc other_doc. doc ≡ other_doc) (document_in need x.0 x.1 top)
-      (document_in need (record { limits = y.0.limits; names = y.0.names; ends = ends }) x.1 other)) head.ends
-      (subst (λ (names : NameLists). Meet StopOfLimit (λ doc other_doc. doc ≡ other_doc) (document_in need x.0 x.1 top)
-      (document_in need (record { limits = y.0.limits; names = names; ends = x.0.ends }) x.1 other)) head.names
-      (document_meets x.0.names x.0.ends x.0.limits y.0.limits need x.1)))
+  heads_meet : (command : Command) (x y : Listed × Items) → IsSameHead x y
+      → Meet StopOfLimit (λ doc other_doc. doc ≡ other_doc) (document_in command x.0 x.1 top)
+      (document_in command y.0 y.1 other)
+  heads_meet command x y head =
+      subst (λ items. Meet StopOfLimit (λ doc other_doc. doc ≡ other_doc) (document_in command x.0 x.1 top)
+      (document_in command y.0 items other)) head.items
+      (subst (λ (ends : List Ends). Meet StopOfLimit (λ doc other_doc. doc ≡ other_doc)
+      (document_in command x.0 x.1 top)
+      (document_in command (record { limits = y.0.limits; names = y.0.names; ends = ends }) x.1 other)) head.ends
+      (subst (λ (names : NameLists). Meet StopOfLimit (λ doc other_doc. doc ≡ other_doc)
+      (document_in command x.0 x.1 top)
+      (document_in command (record { limits = y.0.limits; names = names; ends = x.0.ends }) x.1 other)) head.names
+      (document_meets x.0.names x.0.ends x.0.limits y.0.limits command x.1)))
 
   module _ (object_alike : object_of Top [] (Some top) ≡ object_of Top [] (Some other)) (a b : Limits)
       (says : limits_at top ≡ Ok a) (other_says : limits_at other ≡ Ok b) where
@@ -116,12 +121,12 @@ module _ (top other : Data) (alike : (key : List ℕ) → bytes_eq key (codes "v
         (meet_same StopOfLimit _) (λ named.
         meet_ok StopOfLimit IsSameHead _ _ (record { names = refl; ends = refl; items = refl })))))))
 
-    pub documents_meet : (need : Need) → Meet StopOfLimit (λ doc other_doc. doc ≡ other_doc) (document_of need top)
-        (document_of need other)
+    pub documents_meet : (command : Command) → Meet StopOfLimit (λ doc other_doc. doc ≡ other_doc)
+        (document_of command top) (document_of command other)
     unfolding document_of
-    documents_meet need =
+    documents_meet command =
         meet_bind StopOfLimit IsSameHead (λ doc other_doc. doc ≡ other_doc) (listed_of top) (listed_of other) _ _
-        listed_meet (λ x y head. heads_meet need x y head)
+        listed_meet (λ x y head. heads_meet command x y head)
 
 -- ---- a value with another version
 
@@ -173,8 +178,8 @@ met_apart (Err stop) (Err other) met = by met.at
     by (inr stops) = inr stops
 
 pub readings_meet : ReadingsMeetButForLimits
-readings_meet need top other versions =
-    subst (λ (value : Data). MeetButForLimits (document_of need top) (document_of need value)) (sym versions.same)
+readings_meet command top other versions =
+    subst (λ (value : Data). MeetButForLimits (document_of command top) (document_of command value)) (sym versions.same)
     (met_apart _ _ (documents_meet top (with_version versions.second top) (get_other versions.second top)
     (object_other versions.second top) versions.limits versions.second_limits versions.says
-    (second_said versions.second top versions.limits versions.second_limits versions.says versions.there_is) need))
+    (second_said versions.second top versions.limits versions.second_limits versions.says versions.there_is) command))

@@ -6,9 +6,8 @@ use Rattle.tn_said.specs.declared.said.Said.{Said}
 use Rattle.tn_read_head.specs.Beside.{Stop}
 use Rattle.tn_file.specs.Document.{DocumentData, document_of, reading_of}
 use Rattle.tn_replay_laws.proofs.RunLemmas.{read_as}
-use Rattle.tn_run.specs.declared.command.Command.{Command}
+use Rattle.tn_file.specs.declared.command.Command.{Command}
 use Rattle.tn_run.specs.Answer.{IsAnswerTo}
-use Rattle.tn_run.specs.Words.{need_of}
 use Rattle.tn_format_laws.specs.Versions.{MeetButForLimits, StopsAtLimit}
 use Rattle.tn_format_laws.specs.Runs.{AnswersAreThoseOfEachVersion}
 use Rattle.tn_format_laws.proofs.DocumentLemmas.{readings_meet}
@@ -25,10 +24,9 @@ one_reading command r s (inr (inr stops)) free other_free names said = absurd (o
 
 pub answers_are_those_of_each_version : AnswersAreThoseOfEachVersion
 answers_are_those_of_each_version command bytes other versions free other_free names said =
-    let need = need_of command in
-    let is = read_as need bytes versions.top versions.stands in
-    let other_is = read_as need other versions.other_top versions.other_stands in
-    one_reading command (reading_of need bytes) (reading_of need other)
-    (subst (λ r. MeetButForLimits r (reading_of need other)) (sym is)
-    (subst (λ r. MeetButForLimits (document_of need versions.top) r) (sym other_is)
-    (readings_meet need versions.top versions.other_top versions.versions))) free other_free names said
+    let is = read_as command bytes versions.top versions.stands in
+    let other_is = read_as command other versions.other_top versions.other_stands in
+    one_reading command (reading_of command bytes) (reading_of command other)
+    (subst (λ r. MeetButForLimits r (reading_of command other)) (sym is)
+    (subst (λ r. MeetButForLimits (document_of command versions.top) r) (sym other_is)
+    (readings_meet command versions.top versions.other_top versions.versions))) free other_free names said

@@ -5,9 +5,8 @@ use Rattle.tn_said.specs.declared.said.Said.{Said}
 use Rattle.tn_names.specs.Names.{NameLists}
 use Rattle.tn_file.specs.Document.{reading_of}
 use Rattle.tn_file.specs.Json.{json_of}
-use Rattle.tn_run.specs.declared.command.Command.{Command}
+use Rattle.tn_file.specs.declared.command.Command.{Command}
 use Rattle.tn_run.specs.Answer.{IsAnswerTo}
-use Rattle.tn_run.specs.Words.{need_of}
 use Rattle.tn_format_laws.specs.Versions.{AreOfVersions, StopsAtLimit}
 
 -- two texts stand for values that differ in their versions alone
@@ -21,7 +20,7 @@ pub record AreBytesOfVersions (bytes other : List ℕ) : Type 0 where
 -- where neither is beyond a limit of its version, the two have the same answers
 abbrev pub AnswersAreThoseOfEachVersion : Type 0
 AnswersAreThoseOfEachVersion = (command : Command) (bytes other : List ℕ) → AreBytesOfVersions bytes other
-    → (StopsAtLimit (reading_of (need_of command) bytes) → ⊥)
-    → (StopsAtLimit (reading_of (need_of command) other) → ⊥) → (names : NameLists) (said : Said)
-    → IsAnswerTo command (reading_of (need_of command) bytes) names said
-    ↔ IsAnswerTo command (reading_of (need_of command) other) names said
+    → (StopsAtLimit (reading_of command bytes) → ⊥)
+    → (StopsAtLimit (reading_of command other) → ⊥) → (names : NameLists) (said : Said)
+    → IsAnswerTo command (reading_of command bytes) names said
+    ↔ IsAnswerTo command (reading_of command other) names said

@@ -7,7 +7,7 @@ use Rattle.tn_model.specs.Limits.{limits_of}
 use Rattle.tn_model.specs.declared.limits.Limits.{Limits}
 use Rattle.tn_read_head.specs.Beside.{Stop}
 use Rattle.tn_read_head.specs.Listing.{limits_at}
-use Rattle.tn_file.specs.declared.need.Need.{Need}
+use Rattle.tn_file.specs.declared.command.Command.{Command}
 use Rattle.tn_file.specs.Document.{DocumentData, document_of}
 
 -- the document with this version, in place of its own
@@ -39,5 +39,5 @@ MeetButForLimits reading other = (reading ≡ other) ⊎ StopsAtLimit reading �
 
 -- so it is of every value that says a version, and the same value with another version
 abbrev pub ReadingsMeetButForLimits : Type 0
-ReadingsMeetButForLimits = (need : Need) (top other : Data) → AreOfVersions top other
-    → MeetButForLimits (document_of need top) (document_of need other)
+ReadingsMeetButForLimits = (command : Command) (top other : Data) → AreOfVersions top other
+    → MeetButForLimits (document_of command top) (document_of command other)

@@ -23,8 +23,8 @@ use Rattle.tn_read_firms.proofs.ShownLemmas.{own_position_of}
 use Rattle.tn_read_head.proofs.ListingLeads.{listed_leads}
 use Rattle.tn_read_parts.specs.Arranged.{Arranged, arrangement_of}
 use Rattle.tn_read_claims.specs.Claimed.{claim_of, names_raw}
-use Rattle.tn_file.specs.declared.need.Need.{Need}
-use Rattle.tn_file.specs.declared.need.Need.TheVariants.{Arrangement, Raw}
+use Rattle.tn_file.specs.declared.command.Command.{Command}
+use Rattle.tn_file.specs.declared.command.Command.TheVariants.{Check, Test}
 use Rattle.tn_file.specs.Document.{DocumentData, arrangement, document_of, is_tested}
 use Rattle.tn_file.specs.Laws.{IsDocument}
 use Rattle.tn_file.proofs.DocumentLeads.{document_leads}
@@ -37,15 +37,15 @@ use Rattle.tn_replay_laws.proofs.Frame.{arrangement_other, claim_is_there, raw_t
 use Rattle.tn_replay_laws.proofs.ListLemmas.{AreRead}
 
 -- a document that was read, with its parts
-pub record IsReadFrom (need : Need) (top : Data) (doc : DocumentData) : Type 0 where
-  pub parts : AreParts need top doc
-  pub is : IsDocument need doc
+pub record IsReadFrom (command : Command) (top : Data) (doc : DocumentData) : Type 0 where
+  pub parts : AreParts command top doc
+  pub is : IsDocument command doc
 
-pub read_from : (need : Need) (top : Data) (doc : DocumentData) → document_of need top ≡ Ok doc
-    → IsReadFrom need top doc
-read_from need top doc e = record { parts = parts need top doc e; is = (document_leads need top).at doc e }
+pub read_from : (command : Command) (top : Data) (doc : DocumentData) → document_of command top ≡ Ok doc
+    → IsReadFrom command top doc
+read_from command top doc e = record { parts = parts command top doc e; is = (document_leads command top).at doc e }
 
-module _ (need : Need) (top : Data) (doc : DocumentData) (from : IsReadFrom need top doc) where
+module _ (command : Command) (top : Data) (doc : DocumentData) (from : IsReadFrom command top doc) where
   pub are_read : AreRead (listed_in from.parts.limits doc) doc.firms
   are_read = record {
     limits = ((listed_leads top).at (
@@ -70,12 +70,12 @@ module _ (need : Need) (top : Data) (doc : DocumentData) (from : IsReadFrom need
   -- a claim that is read, whose answer needs the same test of the firms, is the extra part of the document
   pub replayed : (said : Said) (text : List ℕ) (read : ClaimIs)
       → option_and_then as_str (get (codes "answer") (answer_data doc.names said)) ≡ Some text
-      → is_tested need top ≡ not (names_raw text)
+      → is_tested command top ≡ not (names_raw text)
       → claim_of (listed_in from.parts.limits doc) (with_claim (answer_data doc.names said) top) ≡ Ok read
       → IsValid doc.firms doc.ends read → IsReplayed top doc said
   replayed said text read answer tested claimed valid = record {
     read = read;
-    reads = document_back need top (answer_data doc.names said) doc read from.parts (tested
+    reads = document_back command top (answer_data doc.names said) doc read from.parts (tested
         ∙ ap not (sym (raw_there (answer_data doc.names said) top text (there said) answer))) claimed;
     valid = valid;
   }
@@ -88,7 +88,7 @@ pub worth_there : (worth : Option ℤ) (g : ℤ → ℤ) (value : ℤ) → optio
 worth_there (Some a) g value e = (a, refl)
 worth_there None g value e = absurd (none-some value e)
 
-module _ (top : Data) (doc : DocumentData) (at : Arranged) (from : IsReadFrom Arrangement top doc)
+module _ (top : Data) (doc : DocumentData) (at : Arranged) (from : IsReadFrom Check top doc)
     (extra : doc.extra ≡ arrangement at) where
   -- the arrangement is still there
   part : (value : Data) → arrangement_of (listed_in from.parts.limits doc) (with_claim value top) ≡ Ok at
@@ -100,10 +100,10 @@ module _ (top : Data) (doc : DocumentData) (at : Arranged) (from : IsReadFrom Ar
       → FitsClaim (Equilibrium surplus) → IsReplayed top doc (Equilibrium surplus)
   equilibrium_replays surplus judges within =
       let said = Equilibrium surplus in
-      replayed Arrangement top doc from said (codes "equilibrium")
+      replayed Check top doc from said (codes "equilibrium")
       (EquilibriumClaim (record { on = at.on; prices = at.prices }) surplus) refl refl
-      (equilibrium_back (listed_in from.parts.limits doc) doc.firms (are_read Arrangement top doc from)
-      (with_claim (answer_data doc.names said) top) at surplus (there Arrangement top doc from said)
+      (equilibrium_back (listed_in from.parts.limits doc) doc.firms (are_read Check top doc from)
+      (with_claim (answer_data doc.names said) top) at surplus (there Check top doc from said)
       (part (answer_data doc.names said)) within)
       judges
 
@@ -115,11 +115,11 @@ module _ (top : Data) (doc : DocumentData) (at : Arranged) (from : IsReadFrom Ar
       let said = Better f (trades_of doc.ends f is.firm.count x) gain in
       let worth = worth_there (is.firm.worth x) _ is.best_value is.best.is in
       let below : x < 2 ^ is.firm.count = from.is.own_bundles f is.firm is.is x worth.0 worth.1 in
-      replayed Arrangement top doc from said (codes "better")
+      replayed Check top doc from said (codes "better")
       (BetterClaim (record { on = at.on; prices = at.prices }) f x gain) refl refl
-      (better_back (listed_in from.parts.limits doc) doc.firms (are_read Arrangement top doc from)
+      (better_back (listed_in from.parts.limits doc) doc.firms (are_read Check top doc from)
       (with_claim (answer_data doc.names said) top) at f is.firm x gain is.is below
-      (there Arrangement top doc from said) (part (answer_data doc.names said)) within) (
+      (there Check top doc from said) (part (answer_data doc.names said)) within) (
         (
           is.firm,
           is.is,
@@ -140,15 +140,15 @@ module _ (top : Data) (doc : DocumentData) (at : Arranged) (from : IsReadFrom Ar
   impossible_replays f is =
       let said = Impossible f in
       let value = answer_data doc.names said in
-      replayed Arrangement top doc from said (codes "impossible") (ImpossibleClaim at.on f) refl refl
-      (impossible_back (listed_in from.parts.limits doc) doc.firms (are_read Arrangement top doc from)
+      replayed Check top doc from said (codes "impossible") (ImpossibleClaim at.on f) refl refl
+      (impossible_back (listed_in from.parts.limits doc) doc.firms (are_read Check top doc from)
       (with_claim value top) at.on f (slice_get_within doc.firms f is.firm is.is)
-      (there Arrangement top doc from said)
+      (there Check top doc from said)
       (on_arranged (listed_in from.parts.limits doc) (with_claim value top) at (part value)))
       (is.firm, is.is, is.impossible)
 
 -- the answer of `check`
-judged : (top : Data) (doc : DocumentData) (at : Arranged) (said : Said) → IsReadFrom Arrangement top doc
+judged : (top : Data) (doc : DocumentData) (at : Arranged) (said : Said) → IsReadFrom Check top doc
     → doc.extra ≡ arrangement at
     → ChecksArrangement doc.firms doc.ends (pos 1) at.on (price_at at.prices) said → FitsClaim said → IsReplayed top doc said
 judged top doc at (Equilibrium surplus) from extra judges within =
@@ -161,17 +161,17 @@ judged top doc at said from extra judges within = absurd judges
 
 pub verdicts_replay : VerdictsReplay
 verdicts_replay top doc at said read extra judges within =
-    judged top doc at said (read_from Arrangement top doc read) extra judges within
+    judged top doc at said (read_from Check top doc read) extra judges within
 
 -- ---- `test`
 
-module _ (top : Data) (doc : DocumentData) (from : IsReadFrom Raw top doc) where
+module _ (top : Data) (doc : DocumentData) (from : IsReadFrom Test top doc) where
   acceptance_replays : ((f : ℕ) (firm : Firm) → slice_get doc.firms f ≡ Some firm → MeetsExchange firm)
       → IsReplayed top doc Accepted
   acceptance_replays meet =
-      replayed Raw top doc from Accepted (codes "accepted") AcceptedClaim refl refl
-      (accepted_back (listed_in from.parts.limits doc) doc.firms (are_read Raw top doc from)
-      (with_claim (answer_data doc.names Accepted) top) (there Raw top doc from Accepted))
+      replayed Test top doc from Accepted (codes "accepted") AcceptedClaim refl refl
+      (accepted_back (listed_in from.parts.limits doc) doc.firms (are_read Test top doc from)
+      (with_claim (answer_data doc.names Accepted) top) (there Test top doc from Accepted))
       meet
 
   -- the position of a failing triple is an own one
@@ -188,16 +188,16 @@ module _ (top : Data) (doc : DocumentData) (from : IsReadFrom Raw top doc) where
   failure_replays f firm x y at is fails =
       let said = ExchangeFails f (trades_of doc.ends f firm.count x) (trades_of doc.ends f firm.count y)
       (option_map (own doc.ends f) at) in
-      replayed Raw top doc from said (codes "exchange_fails") (FailureClaim f x y at) refl refl
-      (failure_back (listed_in from.parts.limits doc) doc.firms (are_read Raw top doc from)
+      replayed Test top doc from said (codes "exchange_fails") (FailureClaim f x y at) refl refl
+      (failure_back (listed_in from.parts.limits doc) doc.firms (are_read Test top doc from)
       (with_claim (answer_data doc.names said) top) f firm x y at is
       (from.is.own_bundles f firm is x fails.first fails.first_is)
       (from.is.own_bundles f firm is y fails.second fails.second_is) (own_at f firm is x y at fails)
-      (there Raw top doc from said))
+      (there Test top doc from said))
       (firm, is, fails)
 
 -- a firm that fails, with its first triple
-failed : (top : Data) (doc : DocumentData) (f : ℕ) (x y : List ℕ) (at : Option ℕ) → IsReadFrom Raw top doc
+failed : (top : Data) (doc : DocumentData) (f : ℕ) (x y : List ℕ) (at : Option ℕ) → IsReadFrom Test top doc
     → IsFirstToFail doc.firms doc.ends f x y at → IsReplayed top doc (ExchangeFails f x y at)
 failed top doc f x y at from first =
     subst (λ l. IsReplayed top doc (ExchangeFails f l y at)) (sym first.x_is)
@@ -210,6 +210,6 @@ failed top doc f x y at from first =
 
 pub tests_replay : TestsReplay
 tests_replay = record {
-  accepted = λ top doc read meet. acceptance_replays top doc (read_from Raw top doc read) meet;
-  failing = λ top doc f x y at read first. failed top doc f x y at (read_from Raw top doc read) first;
+  accepted = λ top doc read meet. acceptance_replays top doc (read_from Test top doc read) meet;
+  failing = λ top doc f x y at read first. failed top doc f x y at (read_from Test top doc read) first;
 }

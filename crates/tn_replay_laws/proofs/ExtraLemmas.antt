@@ -11,12 +11,12 @@ use Rattle.tn_read_references.specs.Ordered.{Listed}
 use Rattle.tn_read_parts.specs.Arranged.{Arranged, arrangement_of, on_of, prices_place, trades_on_of}
 use Rattle.tn_read_parts.specs.Lists.{prices_of}
 use Rattle.tn_read_parts.specs.Signed.{outcome_of}
-use Rattle.tn_file.specs.declared.need.Need.TheVariants.{Arrangement, On, Outcome}
+use Rattle.tn_file.specs.declared.command.Command.TheVariants.{Check, Judge, Support}
 use Rattle.tn_file.specs.Document.{arrangement, extra_of, on_alone, outcome}
 use Rattle.tn_replay_laws.proofs.DocumentLemmas.{itself}
 
 arranged_lead : (listed : Listed) (top : Data) → Leads (λ extra. (at : Arranged) → extra ≡ arrangement at
-    → arrangement_of listed top ≡ Ok at) (extra_of Arrangement listed top)
+    → arrangement_of listed top ≡ Ok at) (extra_of Check listed top)
 unfolding extra_of
 arranged_lead listed top =
     leads_bind (λ part. arrangement_of listed top ≡ Ok part) (λ extra. (at : Arranged) → extra ≡ arrangement at
@@ -25,12 +25,12 @@ arranged_lead listed top =
     leads_ok (λ extra. (at : Arranged) → extra ≡ arrangement at
     → arrangement_of listed top ≡ Ok at) (arrangement part) (λ at same. let one : part ≡ at = cc in is ∙ ap Ok one))
 
-pub arranged : (listed : Listed) (top : Data) (at : Arranged) → extra_of Arrangement listed top ≡ Ok (arrangement at)
+pub arranged : (listed : Listed) (top : Data) (at : Arranged) → extra_of Check listed top ≡ Ok (arrangement at)
     → arrangement_of listed top ≡ Ok at
 arranged listed top at e = (arranged_lead listed top).at (arrangement at) e at refl
 
 on_read_lead : (listed : Listed) (top : Data) → Leads (λ extra. (on : ℕ) → extra ≡ on_alone on
-    → trades_on_of listed.names.trades top ≡ Ok on) (extra_of On listed top)
+    → trades_on_of listed.names.trades top ≡ Ok on) (extra_of Support listed top)
 unfolding extra_of
 on_read_lead listed top =
     leads_bind (λ part. trades_on_of listed.names.trades top ≡ Ok part) (λ extra. (on : ℕ) → extra ≡ on_alone on
@@ -39,12 +39,12 @@ on_read_lead listed top =
     leads_ok (λ extra. (on : ℕ) → extra ≡ on_alone on → trades_on_of listed.names.trades top ≡ Ok on) (on_alone part)
     (λ on same. let one : part ≡ on = cc in is ∙ ap Ok one))
 
-pub on_read : (listed : Listed) (top : Data) (on : ℕ) → extra_of On listed top ≡ Ok (on_alone on)
+pub on_read : (listed : Listed) (top : Data) (on : ℕ) → extra_of Support listed top ≡ Ok (on_alone on)
     → trades_on_of listed.names.trades top ≡ Ok on
 on_read listed top on e = (on_read_lead listed top).at (on_alone on) e on refl
 
 outcome_read_lead : (listed : Listed) (top : Data) → Leads (λ extra. (signed : OutcomeIs) → extra ≡ outcome signed
-    → outcome_of listed top ≡ Ok signed) (extra_of Outcome listed top)
+    → outcome_of listed top ≡ Ok signed) (extra_of Judge listed top)
 unfolding extra_of
 outcome_read_lead listed top =
     leads_bind (λ part. outcome_of listed top ≡ Ok part) (λ extra. (signed : OutcomeIs) → extra ≡ outcome signed
@@ -54,7 +54,7 @@ outcome_read_lead listed top =
     is ∙ ap Ok one))
 
 pub outcome_read : (listed : Listed) (top : Data) (signed : OutcomeIs)
-    → extra_of Outcome listed top ≡ Ok (outcome signed) → outcome_of listed top ≡ Ok signed
+    → extra_of Judge listed top ≡ Ok (outcome signed) → outcome_of listed top ≡ Ok signed
 outcome_read listed top signed e = (outcome_read_lead listed top).at (outcome signed) e signed refl
 
 -- whose arrangement is read, of that the trades alone are read too

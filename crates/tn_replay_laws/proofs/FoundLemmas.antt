@@ -30,7 +30,7 @@ use Rattle.tn_replay_laws.specs.Fits.{FitsClaim}
 use Rattle.tn_read_parts.specs.Arranged.{trades_on_of}
 use Rattle.tn_commands.specs.Solve.{Solves}
 use Rattle.tn_commands.specs.Support.{SupportsSet}
-use Rattle.tn_file.specs.declared.need.Need.TheVariants.{Market, On}
+use Rattle.tn_file.specs.declared.command.Command.TheVariants.{Solve, Support}
 use Rattle.tn_file.specs.Document.{DocumentData, on_alone}
 use Rattle.tn_replay_laws.specs.Laws.{SolutionsReplay, SupportsReplay}
 use Rattle.tn_replay_laws.specs.Replayed.{IsReplayed, with_claim}
@@ -119,7 +119,7 @@ module _ (firms : List Firm) (trades : List Ends) (network : IsNetwork firms tra
 
 -- ---- `support`
 
-module _ (top : Data) (doc : DocumentData) (on : ℕ) (from : IsReadFrom On top doc) (extra : doc.extra
+module _ (top : Data) (doc : DocumentData) (on : ℕ) (from : IsReadFrom Support top doc) (extra : doc.extra
     ≡ on_alone on) where
   on_there : (value : Data) → trades_on_of doc.names.trades (with_claim value top) ≡ Ok on
   on_there value = trades_on_other doc.names.trades value top
@@ -129,9 +129,9 @@ module _ (top : Data) (doc : DocumentData) (on : ℕ) (from : IsReadFrom On top 
   unable_replays f is =
       let said = Impossible f in
       let value = answer_data doc.names said in
-      replayed On top doc from said (codes "impossible") (ImpossibleClaim on f) refl refl
-      (impossible_back (listed_in from.parts.limits doc) doc.firms (are_read On top doc from) (with_claim value top) on
-      f (slice_get_within doc.firms f is.firm is.is) (there On top doc from said) (on_there value))
+      replayed Support top doc from said (codes "impossible") (ImpossibleClaim on f) refl refl
+      (impossible_back (listed_in from.parts.limits doc) doc.firms (are_read Support top doc from) (with_claim value top) on
+      f (slice_get_within doc.firms f is.firm is.is) (there Support top doc from said) (on_there value))
       (is.firm, is.is, is.impossible)
 
   supported_replays : (listed : List ℕ) (prices : List ℤ) (ends : List Ends)
@@ -140,10 +140,10 @@ module _ (top : Data) (doc : DocumentData) (on : ℕ) (from : IsReadFrom On top 
   supported_replays listed prices ends supports within =
       let said = Supported listed prices ends in
       let value = answer_data doc.names said in
-      replayed On top doc from said (codes "prices") (SupportedClaim on prices) refl refl
-      (supported_back (listed_in from.parts.limits doc) doc.firms (are_read On top doc from) (with_claim value top) on
+      replayed Support top doc from said (codes "prices") (SupportedClaim on prices) refl refl
+      (supported_back (listed_in from.parts.limits doc) doc.firms (are_read Support top doc from) (with_claim value top) on
       prices (supports.0.one_each ∙ sym from.is.trades_named) within
-      (there On top doc from said) (on_there value))
+      (there Support top doc from said) (on_there value))
       supports.0.equilibrium
 
   cycle_replays : (nodes : List (Option ℕ)) (cost : ℤ) → IsNegativeCycle doc.firms doc.ends on nodes cost
@@ -156,14 +156,14 @@ module _ (top : Data) (doc : DocumentData) (on : ℕ) (from : IsReadFrom On top 
       let most = nodes_most doc.firms doc.ends from.is.network on nodes cost cycle in
       let few = ((listed_leads top).at (listed_in from.parts.limits doc, from.parts.items) from.parts.listed).trades.few
       in
-      let enough = (are_read On top doc from).limits.enough_nodes in
-      replayed On top doc from said (codes "cycle") (CycleClaim on nodes cost) refl refl
-      (cycle_back (listed_in from.parts.limits doc) doc.firms (are_read On top doc from) (with_claim value top) on nodes
+      let enough = (are_read Support top doc from).limits.enough_nodes in
+      replayed Support top doc from said (codes "cycle") (CycleClaim on nodes cost) refl refl
+      (cycle_back (listed_in from.parts.limits doc) doc.firms (are_read Support top doc from) (with_claim value top) on nodes
       cost known (nodes_least doc.firms doc.ends from.is.network on nodes cost cycle)
-      (omega (arith, most, few, enough)) within (there On top doc from said) (on_there value))
+      (omega (arith, most, few, enough)) within (there Support top doc from said) (on_there value))
       (cycle.possible, goes_round doc.firms doc.ends from.is.network on nodes cost cycle, cycle.negative)
 
-supported : (top : Data) (doc : DocumentData) (on : ℕ) (said : Said) → IsReadFrom On top doc → doc.extra ≡ on_alone on
+supported : (top : Data) (doc : DocumentData) (on : ℕ) (said : Said) → IsReadFrom Support top doc → doc.extra ≡ on_alone on
     → SupportsSet doc.firms doc.ends on said → FitsClaim said → IsReplayed top doc said
 supported top doc on (Impossible f) from extra supports within = unable_replays top doc on from extra f supports.0
 supported top doc on (Supported listed prices ends) from extra supports within =
@@ -174,7 +174,7 @@ supported top doc on said from extra supports within = absurd supports
 
 pub supports_replay : SupportsReplay
 supports_replay top doc on said read extra supports within =
-    supported top doc on said (read_from On top doc read) extra supports within
+    supported top doc on said (read_from Support top doc read) extra supports within
 
 -- ---- `solve`
 
@@ -226,7 +226,7 @@ surplus-same firms trades network set =
     subst (λ f. part trades f firm.count set ≡ part trades f firm.count (set_of (has set) (length trades))) e
     (part-same firms trades network set g firm is))
 
-module _ (top : Data) (doc : DocumentData) (from : IsReadFrom Market top doc) where
+module _ (top : Data) (doc : DocumentData) (from : IsReadFrom Solve top doc) where
   set_replays : (set : ℕ) (prices : List ℤ) (surplus : ℤ) (ends : List Ends) → length prices ≡ length doc.ends
       → IsEquilibrium doc.firms doc.ends (pos 1) set (price_at prices)
       → surplus_of doc.firms doc.ends set ≡ Some surplus
@@ -235,13 +235,13 @@ module _ (top : Data) (doc : DocumentData) (from : IsReadFrom Market top doc) wh
   set_replays set prices surplus ends one_each equilibrium is small_prices small =
       let said = Solved (trades_on set (length doc.names.trades)) prices surplus ends in
       let value = answer_data doc.names said in
-      replayed Market top doc from said (codes "solved") (SolvedClaim (record {
+      replayed Solve top doc from said (codes "solved") (SolvedClaim (record {
         on =
             set_of (has set) (length doc.names.trades);
         prices = prices;
       }) surplus) refl refl
-      (solved_back (listed_in from.parts.limits doc) doc.firms (are_read Market top doc from) (with_claim value top) set
-      prices surplus (one_each ∙ sym from.is.trades_named) small_prices small (there Market top doc from said)) (
+      (solved_back (listed_in from.parts.limits doc) doc.firms (are_read Solve top doc from) (with_claim value top) set
+      prices surplus (one_each ∙ sym from.is.trades_named) small_prices small (there Solve top doc from said)) (
         subst (λ n. IsEquilibrium doc.firms doc.ends (pos 1) (set_of (has set) n) (price_at prices))
             (sym from.is.trades_named) (equilibrium-same doc.firms doc.ends from.is.network set (pos 1)
             (price_at prices) equilibrium),
@@ -249,7 +249,7 @@ module _ (top : Data) (doc : DocumentData) (from : IsReadFrom Market top doc) wh
             (sym (surplus-same doc.firms doc.ends from.is.network set) ∙ is),
       )
 
-solved : (top : Data) (doc : DocumentData) (said : Said) → IsReadFrom Market top doc → Solves doc.firms doc.ends said
+solved : (top : Data) (doc : DocumentData) (said : Said) → IsReadFrom Solve top doc → Solves doc.firms doc.ends said
     → FitsClaim said → IsReplayed top doc said
 solved top doc (Solved on prices surplus ends) from is within =
     subst (λ l. IsReplayed top doc (Solved l prices surplus ends)) (ap (trades_on is.0.set) from.is.trades_named
@@ -259,4 +259,4 @@ solved top doc (Solved on prices surplus ends) from is within =
 solved top doc said from is within = absurd is
 
 pub solutions_replay : SolutionsReplay
-solutions_replay top doc said read solves within = solved top doc said (read_from Market top doc read) solves within
+solutions_replay top doc said read solves within = solved top doc said (read_from Solve top doc read) solves within

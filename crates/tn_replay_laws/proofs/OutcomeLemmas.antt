@@ -32,7 +32,7 @@ use Rattle.tn_answer.specs.AnswerText.{answer_data}
 use Rattle.tn_replay_laws.specs.Fits.{FitsClaim}
 use Rattle.tn_read_parts.specs.Signed.{outcome_of}
 use Rattle.tn_commands.specs.Judge.{JudgesOutcome}
-use Rattle.tn_file.specs.declared.need.Need.TheVariants.{Outcome}
+use Rattle.tn_file.specs.declared.command.Command.TheVariants.{Judge}
 use Rattle.tn_file.specs.Document.{DocumentData, outcome}
 use Rattle.tn_file.specs.Laws.{IsExtra}
 use Rattle.tn_replay_laws.specs.Laws.{JudgementsReplay}
@@ -50,7 +50,7 @@ product_least d e d_least e_least =
     let one : d *ℤ pos 1 ≡ d = omega (arith, ints) in
     omega (arith, ints, more, one, d_least)
 
-module _ (top : Data) (doc : DocumentData) (signed : OutcomeIs) (from : IsReadFrom Outcome top doc) (extra : doc.extra
+module _ (top : Data) (doc : DocumentData) (signed : OutcomeIs) (from : IsReadFrom Judge top doc) (extra : doc.extra
     ≡ outcome signed) where
   outcome_there : (value : Data) → outcome_of (listed_in from.parts.limits doc) (with_claim value top) ≡ Ok signed
   outcome_there value = outcome_other (listed_in from.parts.limits doc) value top
@@ -63,7 +63,7 @@ module _ (top : Data) (doc : DocumentData) (signed : OutcomeIs) (from : IsReadFr
   feasible = outcome_feasible doc.ends signed.over signed.contracts within_limits
 
   limits_are : AreLimits from.parts.limits
-  limits_are = (are_read Outcome top doc from).limits
+  limits_are = (are_read Judge top doc from).limits
 
   over_most : signed.over ≤ℤ pos from.parts.limits.claimed_over
   over_most =
@@ -174,10 +174,10 @@ module _ (top : Data) (doc : DocumentData) (signed : OutcomeIs) (from : IsReadFr
         let said = Drops f (trades_of doc.ends f firm.count keeps) gain signed.over in
         let value = answer_data doc.names said in
         let valid = drops_valid in
-        replayed Outcome top doc from said (codes "drops") (DropsClaim signed f keeps gain signed.over) refl refl
-        (drops_back (listed_in from.parts.limits doc) doc.firms (are_read Outcome top doc from) (with_claim value top)
+        replayed Judge top doc from said (codes "drops") (DropsClaim signed f keeps gain signed.over) refl refl
+        (drops_back (listed_in from.parts.limits doc) doc.firms (are_read Judge top doc from) (with_claim value top)
         signed f firm keeps gain signed.over first.is keeps_below small within_limits.least over_most
-        (there Outcome top doc from said) (outcome_there value))
+        (there Judge top doc from said) (outcome_there value))
         (refl, are_signed, (firm, first.is, valid.0), valid.1)
 
   -- ---- prices that complete the outcome
@@ -187,10 +187,10 @@ module _ (top : Data) (doc : DocumentData) (signed : OutcomeIs) (from : IsReadFr
   completes_replay prices completed small =
       let said = Completes prices signed.over in
       let value = answer_data doc.names said in
-      replayed Outcome top doc from said (codes "completes") (CompletesClaim signed prices signed.over) refl refl
-      (completes_back (listed_in from.parts.limits doc) doc.firms (are_read Outcome top doc from) (with_claim value top)
+      replayed Judge top doc from said (codes "completes") (CompletesClaim signed prices signed.over) refl refl
+      (completes_back (listed_in from.parts.limits doc) doc.firms (are_read Judge top doc from) (with_claim value top)
       signed prices signed.over (completed.one_each ∙ sym from.is.trades_named) small within_limits.least over_most
-      (there Outcome top doc from said) (outcome_there value))
+      (there Judge top doc from said) (outcome_there value))
       (refl, completed.completes)
 
   -- ---- contracts that block it
@@ -201,12 +201,12 @@ module _ (top : Data) (doc : DocumentData) (signed : OutcomeIs) (from : IsReadFr
   blocks_replay offers over least most blocks small =
       let said = Blocks offers over in
       let value = answer_data doc.names said in
-      replayed Outcome top doc from said (codes "blocks") (BlocksClaim signed offers over) refl refl
-      (blocks_back (listed_in from.parts.limits doc) doc.firms (are_read Outcome top doc from) (with_claim value top)
+      replayed Judge top doc from said (codes "blocks") (BlocksClaim signed offers over) refl refl
+      (blocks_back (listed_in from.parts.limits doc) doc.firms (are_read Judge top doc from) (with_claim value top)
       signed offers over
       (λ k contract at. subst (λ n. contract.trade < n) (sym from.is.trades_named)
       (blocks.feasible.known k contract at)) blocks.feasible.once small least most
-      (there Outcome top doc from said) (outcome_there value))
+      (there Judge top doc from said) (outcome_there value))
       blocks
 
   chain_replays : (offers : List Contract) (told : ℤ)
@@ -220,7 +220,7 @@ module _ (top : Data) (doc : DocumentData) (signed : OutcomeIs) (from : IsReadFr
       subst (λ over. IsReplayed top doc (Blocks offers over)) (sym blocked.over_is)
       (blocks_replay offers (signed.over *ℤ scale) least scale_most blocked.chain.blocks small)
 
-judged : (top : Data) (doc : DocumentData) (signed : OutcomeIs) (said : Said) → IsReadFrom Outcome top doc
+judged : (top : Data) (doc : DocumentData) (signed : OutcomeIs) (said : Said) → IsReadFrom Judge top doc
     → doc.extra ≡ outcome signed
     → JudgesOutcome doc.firms doc.ends signed.over signed.contracts said → FitsClaim said → IsReplayed top doc said
 judged top doc signed (Drops f keeps gain told) from extra judges within =
@@ -236,4 +236,4 @@ judged top doc signed said from extra judges within = absurd judges
 
 pub judgements_replay : JudgementsReplay
 judgements_replay top doc signed said read extra judges within =
-    judged top doc signed said (read_from Outcome top doc read) extra judges within
+    judged top doc signed said (read_from Judge top doc read) extra judges within

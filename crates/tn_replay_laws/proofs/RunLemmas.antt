@@ -13,7 +13,7 @@ use Rattle.tn_cert.specs.RefutedLaw.{RefutedIsNotValid}
 use Rattle.tn_commands.specs.Replay.{DecidesClaim}
 use Rattle.tn_commands.proofs.CheckLemmas.{claim_implies}
 use Rattle.tn_answer.specs.AnswerText.{answer_data}
-use Rattle.tn_file.specs.declared.need.Need.{Need}
+use Rattle.tn_file.specs.declared.command.Command.{Command}
 use Rattle.tn_file.specs.Document.{DocumentData, ExtraData, arrangement, document_of, on_alone, outcome, reading_of}
 use Rattle.tn_file.specs.Json.{json_of}
 use Rattle.tn_file.proofs.DocumentLeads.{documents_are_networks}
@@ -22,30 +22,28 @@ use Rattle.tn_replay_laws.specs.Replayed.{IsReplayed, claimed_in, with_claim}
 use Rattle.tn_replay_laws.proofs.CheckedLemmas.{tests_replay, verdicts_replay}
 use Rattle.tn_replay_laws.proofs.FoundLemmas.{solutions_replay, supports_replay}
 use Rattle.tn_replay_laws.proofs.OutcomeLemmas.{judgements_replay}
-use Rattle.tn_run.specs.declared.command.Command.{Command}
-use Rattle.tn_run.specs.declared.command.Command.TheVariants.{Check, Firms, Judge, Range, Replay, Session, Solve, Support, Test}
+use Rattle.tn_file.specs.declared.command.Command.TheVariants.{Check, Firms, Judge, Range, Replay, Session, Solve, Support, Test}
 use Rattle.tn_run.specs.Answer.{ChecksExtra, IsAnswerOf, IsAnswerTo, JudgesExtra, SupportsExtra}
 use Rattle.tn_replay_laws.specs.Runs.{AnswersReplay, answers_claims}
 use Rattle.tn_raw_answers.specs.Test.{Tests}
-use Rattle.tn_run.specs.Words.{need_of}
 
 module _ (top : Data) (doc : DocumentData) (said : Said) (within : FitsClaim said) where
-  checked : document_of (need_of Check) top ≡ Ok doc → (extra : ExtraData) → doc.extra ≡ extra
+  checked : document_of Check top ≡ Ok doc → (extra : ExtraData) → doc.extra ≡ extra
       → ChecksExtra doc extra said → IsReplayed top doc said
   checked read (arrangement at) is checks = verdicts_replay top doc at said read is checks.0 within
   checked read extra is checks = absurd checks
 
-  judged : document_of (need_of Judge) top ≡ Ok doc → (extra : ExtraData) → doc.extra ≡ extra
+  judged : document_of Judge top ≡ Ok doc → (extra : ExtraData) → doc.extra ≡ extra
       → JudgesExtra doc extra said → IsReplayed top doc said
   judged read (outcome signed) is judges = judgements_replay top doc signed said read is judges within
   judged read extra is judges = absurd judges
 
-  supported : document_of (need_of Support) top ≡ Ok doc → (extra : ExtraData) → doc.extra ≡ extra
+  supported : document_of Support top ≡ Ok doc → (extra : ExtraData) → doc.extra ≡ extra
       → SupportsExtra doc extra said → IsReplayed top doc said
   supported read (on_alone on) is supports = supports_replay top doc on said read is supports within
   supported read extra is supports = absurd supports
 
-tested : (top : Data) (doc : DocumentData) (said : Said) → document_of (need_of Test) top ≡ Ok doc
+tested : (top : Data) (doc : DocumentData) (said : Said) → document_of Test top ≡ Ok doc
     → Tests doc.firms doc.ends said → IsReplayed top doc said
 tested top doc Accepted read meet =
     tests_replay.accepted top doc read (λ f firm is. meet f firm (slice_get_within doc.firms f firm is) is)
@@ -53,7 +51,7 @@ tested top doc (ExchangeFails f x y at) read fails = tests_replay.failing top do
 tested top doc said read tests = absurd tests
 
 replayed : (command : Command) (top : Data) (doc : DocumentData) (said : Said) → answers_claims command ≡ true
-    → document_of (need_of command) top ≡ Ok doc → IsAnswerOf command doc said → FitsClaim said
+    → document_of command top ≡ Ok doc → IsAnswerOf command doc said → FitsClaim said
     → IsReplayed top doc said
 replayed Check top doc said claims read answer within = checked top doc said within read doc.extra refl answer
 replayed Judge top doc said claims read answer within = judged top doc said within read doc.extra refl answer
@@ -66,10 +64,10 @@ replayed Support top doc said claims read answer within = supported top doc said
 replayed Test top doc said claims read answer within = tested top doc said read answer
 
 -- what bytes are read as, by their JSON value
-pub read_as : (need : Need) (bytes : List ℕ) (top : Data) → json_of bytes ≡ Some top
-    → reading_of need bytes ≡ document_of need top
+pub read_as : (command : Command) (bytes : List ℕ) (top : Data) → json_of bytes ≡ Some top
+    → reading_of command bytes ≡ document_of command top
 unfolding reading_of
-read_as need bytes top is = rw is
+read_as command bytes top is = rw is
 
 -- a claim that is valid has no other decision
 only_valid : RefutedIsNotValid → (firms : List Firm) (trades : List Ends) (claim : Claim) → IsValid firms trades claim
@@ -82,10 +80,10 @@ only_valid refuted firms trades claim valid answer decides = absurd decides
 pub answers_replay : RefutedIsNotValid → AnswersReplay
 answers_replay refuted command bytes claimed top doc said claims is read answered within there names answer =
     let replays =
-    replayed command top doc said claims (sym (read_as (need_of command) bytes top is) ∙ read) answered within in
-    let reads : reading_of (need_of Replay) claimed ≡ Ok (claimed_in doc replays.read) =
-    read_as (need_of Replay) claimed (with_claim (answer_data doc.names said) top) there ∙ replays.reads in
-    let is_document = documents_are_networks (need_of Replay) claimed (claimed_in doc replays.read) reads in
+    replayed command top doc said claims (sym (read_as command bytes top is) ∙ read) answered within in
+    let reads : reading_of Replay claimed ≡ Ok (claimed_in doc replays.read) =
+    read_as Replay claimed (with_claim (answer_data doc.names said) top) there ∙ replays.reads in
+    let is_document = documents_are_networks Replay claimed (claimed_in doc replays.read) reads in
     let implied = claim_implies doc.firms doc.ends replays.read is_document.network is_document.extra replays.valid in
     subst (λ r. IsAnswerTo Replay r names answer ↔ ((answer ≡ Valid) × (names ≡ doc.names))) (sym reads) (
       λ to. (only_valid refuted doc.firms doc.ends replays.read replays.valid answer to.0, to.1),

@@ -9,10 +9,9 @@ use Rattle.tn_said.specs.declared.said.Said.TheVariants.{Valid}
 use Rattle.tn_names.specs.Names.{NameLists}
 use Rattle.tn_replay_laws.specs.Fits.{FitsClaim}
 use Rattle.tn_replay_laws.specs.Replayed.{with_claim}
-use Rattle.tn_run.specs.declared.command.Command.{Command}
-use Rattle.tn_run.specs.declared.command.Command.TheVariants.{Check, Firms, Judge, Range, Replay, Session, Solve, Support, Test}
+use Rattle.tn_file.specs.declared.command.Command.{Command}
+use Rattle.tn_file.specs.declared.command.Command.TheVariants.{Check, Firms, Judge, Range, Replay, Session, Solve, Support, Test}
 use Rattle.tn_run.specs.Answer.{IsAnswerOf, IsAnswerTo}
-use Rattle.tn_run.specs.Words.{need_of}
 
 -- whether the answers of a command are claims
 abbrev pub answers_claims : Command → Bool
@@ -30,8 +29,8 @@ answers_claims Test = true
 -- nothing else, over the same names
 abbrev pub AnswersReplay : Type 0
 AnswersReplay = (command : Command) (bytes claimed : List ℕ) (top : Data) (doc : DocumentData) (said : Said)
-    → answers_claims command ≡ true → json_of bytes ≡ Some top → reading_of (need_of command) bytes ≡ Ok doc
+    → answers_claims command ≡ true → json_of bytes ≡ Some top → reading_of command bytes ≡ Ok doc
     → IsAnswerOf command doc said → FitsClaim said → json_of claimed
     ≡ Some (with_claim (answer_data doc.names said) top)
-    → (names : NameLists) (answer : Said) → IsAnswerTo Replay (reading_of (need_of Replay) claimed) names answer
+    → (names : NameLists) (answer : Said) → IsAnswerTo Replay (reading_of Replay claimed) names answer
     ↔ ((answer ≡ Valid) × (names ≡ doc.names))

@@ -7,7 +7,7 @@ use Rattle.tn_answer.specs.declared.layout.Layout.{Layout}
 use Rattle.tn_io.specs.Source.{TakesFirst}
 use Rattle.tn_names.specs.Names.{NameLists}
 use Rattle.tn_file.specs.Document.{reading_of}
-use Rattle.tn_run.specs.declared.command.Command.{Command}
+use Rattle.tn_file.specs.declared.command.Command.{Command}
 use Rattle.tn_run.specs.Answer.{document_limit, IsAnswerTo, AnswersBytes, FindsTooLong, MayBeSaid}
 use Rattle.tn_run.specs.declared.request.Request.{Request}
 use Rattle.tn_run.specs.declared.request.Request.TheVariants.{Document}
@@ -15,7 +15,6 @@ use Rattle.tn_run.specs.Complete.{NoneCounted, IsAnswerToAll, SaysOfAll, Answers
 use Rattle.tn_run.specs.Request.{layout_of}
 use Rattle.tn_run.specs.Run.{IsWrittenWhole, IsWritten}
 use Rattle.tn_run.specs.Saying.{MaySay}
-use Rattle.tn_run.specs.Words.{need_of}
 
 -- a source that tells its bytes has as many as are taken
 has_taken : (all : List ℕ) (new : Option (List ℕ)) (n : ℕ) → TakesFirst (Some all) new n → n ≤ length all
@@ -32,7 +31,7 @@ all_answered command all new names said answers = elim answers [
     many = λ many. long.said_is;
   }
   | inr whole ↦ record {
-    few = λ few. subst (λ (bytes : List ℕ). IsAnswerTo command (reading_of (need_of command) bytes) names said)
+    few = λ few. subst (λ (bytes : List ℕ). IsAnswerTo command (reading_of command bytes) names said)
         whole.told whole.answer;
     kept = λ few. whole.kept;
     many = λ many. let few = subst (λ (bytes : List ℕ). length bytes ≤ document_limit) whole.told whole.few in

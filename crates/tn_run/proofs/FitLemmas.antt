@@ -7,12 +7,12 @@ use Rattle.tn_firm.specs.declared.value.FirmValue.{FirmValue}
 use Rattle.tn_firm.specs.Firms.{firm_of}
 use Rattle.tn_firm.specs.Raw.{raw_firm_of}
 use Rattle.tn_commands.specs.Limits.{AreWorthsAnswered}
-use Rattle.tn_file.specs.declared.need.Need.{Need}
+use Rattle.tn_file.specs.declared.command.Command.{Command}
 use Rattle.tn_file.specs.declared.document.Document.{Document}
 use Rattle.tn_file.specs.declared.document.Content.{Content}
 use Rattle.tn_file.specs.declared.document.Content.TheVariants.{Market, Raw}
-use Rattle.tn_file.specs.declared.extra.Extra.{Extra}
-use Rattle.tn_file.specs.declared.extra.RawExtra.{RawExtra}
+use Rattle.tn_file.specs.declared.asked.Asked.{Asked}
+use Rattle.tn_file.specs.declared.asked.RawAsked.{RawAsked}
 use Rattle.tn_file.specs.declared.document.RawNet.{RawNet}
 use Rattle.tn_file.specs.Laws.{IsDocument}
 use Rattle.tn_file.specs.Refusal.{document_view}
@@ -24,14 +24,14 @@ pub record IsAnswered (market : Traded FirmValue) : Type 0 where
   pub few_trades : length market.trades ≤ most_trades
   pub worths : AreWorthsAnswered (map firm_of market.firms) market.trades
 
-pub market_fits : (need : Need) (doc : Document) → IsDocument need (document_view doc) → (market : Traded FirmValue)
-    (extra : Extra) → doc.content ≡ Market market extra → IsAnswered market
-market_fits need doc document market extra is =
-    subst (λ (held : Content). IsDocument need (document_view (record { names = doc.names; content = held }))
+pub market_fits : (command : Command) (doc : Document) → IsDocument command (document_view doc) → (market : Traded FirmValue)
+    (asked : Asked) → doc.content ≡ Market market asked → IsAnswered market
+market_fits command doc document market asked is =
+    subst (λ (held : Content). IsDocument command (document_view (record { names = doc.names; content = held }))
     → IsAnswered market) (sym is) (λ there. record {
-      few_firms = let few = few_firms need _ there in let count = length-map market.firms firm_of in
+      few_firms = let few = few_firms command _ there in let count = length-map market.firms firm_of in
           omega (arith, few, count);
-      few_trades = few_trades need _ there;
+      few_trades = few_trades command _ there;
       worths = there.worths;
     }) document
 
@@ -40,12 +40,12 @@ pub record IsTested (net : RawNet) : Type 0 where
   pub few_firms : length net.firms ≤ most_firms
   pub few_trades : length net.ends ≤ most_trades
 
-pub raw_fits : (need : Need) (doc : Document) → IsDocument need (document_view doc) → (net : RawNet)
-    (extra : RawExtra) → doc.content ≡ Raw net extra → IsTested net
-raw_fits need doc document net extra is =
-    subst (λ (held : Content). IsDocument need (document_view (record { names = doc.names; content = held }))
+pub raw_fits : (command : Command) (doc : Document) → IsDocument command (document_view doc) → (net : RawNet)
+    (asked : RawAsked) → doc.content ≡ Raw net asked → IsTested net
+raw_fits command doc document net asked is =
+    subst (λ (held : Content). IsDocument command (document_view (record { names = doc.names; content = held }))
     → IsTested net) (sym is) (λ there. record {
-      few_firms = let few = few_firms need _ there in let count = length-map net.firms raw_firm_of in
+      few_firms = let few = few_firms command _ there in let count = length-map net.firms raw_firm_of in
           omega (arith, few, count);
-      few_trades = few_trades need _ there;
+      few_trades = few_trades command _ there;
     }) document

@@ -6,20 +6,19 @@ use Rattle.tn_read_head.specs.Beside.{Stop}
 use Rattle.tn_said.specs.declared.said.Said.{Said}
 use Rattle.tn_said.specs.declared.said.Said.TheVariants.{Usage, ReadFault, NoMemory}
 use Rattle.tn_names.specs.Names.{NameLists}
-use Rattle.tn_run.specs.declared.command.Command.{Command}
-use Rattle.tn_run.specs.declared.command.Command.TheVariants.{Check, Firms, Judge, Range, Replay, Session, Solve, Support, Test}
+use Rattle.tn_file.specs.declared.command.Command.{Command}
+use Rattle.tn_file.specs.declared.command.Command.TheVariants.{Check, Firms, Judge, Range, Replay, Session, Solve, Support, Test}
 use Rattle.tn_run.specs.Answer.{AnswersBytes, IsAnswerTo, MayBeSaid}
 use Rattle.tn_run.specs.Headline.{IsHeadline, KeepsPromise, ShowsFault, is_headlined}
 use Rattle.tn_run.specs.declared.request.Request.{Request}
 use Rattle.tn_run.specs.declared.request.Request.TheVariants.{Document}
 use Rattle.tn_run.specs.Request.{IfDocument}
 use Rattle.tn_run.specs.Saying.{MaySay}
-use Rattle.tn_run.specs.Words.{need_of}
 
 -- what is promised of the document that the bytes stand for, or their first fault
 pub kept_or_shown : (command : Command) (bytes : List ℕ) (read : Result DocumentData Stop) (names : NameLists)
     (said : Said) → is_headlined command ≡ true
-    → reading_of (need_of command) bytes ≡ read → IsAnswerTo command read names said → KeepsPromise command bytes said
+    → reading_of command bytes ≡ read → IsAnswerTo command read names said → KeepsPromise command bytes said
     ⊎ ShowsFault command bytes said
 kept_or_shown command bytes (Err stop) names said headlined reads answer =
     inr (record { stop = stop; reads = reads; said_is = answer.0 })
@@ -44,7 +43,7 @@ headline_of_bytes command old new before after names said headlined answers = el
     bytes = whole.bytes;
     taken = whole.taken;
     end = whole.end;
-    answer = kept_or_shown command whole.bytes (reading_of (need_of command) whole.bytes) names said headlined refl
+    answer = kept_or_shown command whole.bytes (reading_of command whole.bytes) names said headlined refl
         whole.answer;
   })
 ]

@@ -19,7 +19,7 @@ use Rattle.tn_io.specs.Lines.{TakesLines, TakesPart, most_turns}
 use Rattle.tn_io.specs.Sink.{Grows, GrowsByPrefix}
 use Rattle.tn_io.proofs.Grown.{Grows-trans}
 use Rattle.tn_io.proofs.LineLemmas.{TakesLines-end, TakesLines-kept, TakesLines-most, TakesLines-trans, still_known, told_end}
-use Rattle.tn_run.specs.declared.command.Command.{Command}
+use Rattle.tn_file.specs.declared.command.Command.{Command}
 use Rattle.tn_run.specs.Answer.{document_limit}
 use Rattle.tn_run.specs.Complete.{NoneCounted}
 use Rattle.tn_run.specs.Headline.{is_headlined}
@@ -28,7 +28,6 @@ use Rattle.tn_run.specs.Run.{IsWritten, IsWrittenWhole, status_of}
 use Rattle.tn_run.specs.Status.{status_number}
 use Rattle.tn_run.specs.declared.status.Status.{Status}
 use Rattle.tn_run.specs.declared.status.Status.TheVariants.{Yes, Fault as HasFault, NoMemory as RanOut, No}
-use Rattle.tn_run.specs.Words.{need_of}
 use Rattle.tn_run.proofs.HeadlineLemmas.{kept_or_shown}
 
 -- ---- the answer to a line
@@ -39,7 +38,7 @@ line_headline command entry headlined answer = elim answer [
   | inl none ↦ inr (inr none)
   | inr all ↦ elim (cases_lt document_limit (length entry.line)) [
     | inl many ↦ inr (inl (many, all.many many))
-    | inr few ↦ inl (kept_or_shown command entry.line (reading_of (need_of command) entry.line) entry.names entry.said
+    | inr few ↦ inl (kept_or_shown command entry.line (reading_of command entry.line) entry.names entry.said
         headlined refl (all.few few))
   ]
 ]

@@ -18,16 +18,16 @@ use Rattle.tn_names.specs.Names.{NameLists}
 use Rattle.tn_names.specs.Named.{IsNamed}
 use Rattle.tn_answer.specs.Kept.{HasAscendingTrades, IsWithinClaims}
 use Rattle.tn_answer.proofs.LawLemmas.{within_sayable}
-use Rattle.tn_file.specs.declared.need.Need.{Need}
+use Rattle.tn_file.specs.declared.command.Command.{Command}
+use Rattle.tn_file.specs.declared.document.Document.{Document}
 use Rattle.tn_file.specs.Document.{DocumentData, ExtraData, arrangement, on_alone, outcome, edits, claim, reading_of}
 use Rattle.tn_file.specs.Laws.{IsDocument, IsExtra}
 use Rattle.tn_read_head.specs.declared.refusal.DocRefusal.{DocRefusal}
 use Rattle.tn_read_head.specs.Beside.{IsStop}
 use Rattle.tn_read_head.specs.Refused.{Reads}
-use Rattle.tn_file.specs.Refusal.{document_view}
-use Rattle.tn_file.proofs.DocumentLeads.{documents_are_networks}
+use Rattle.tn_file.specs.Refusal.{command_of, document_view}
 use Rattle.tn_file.proofs.DocumentStops.{faults_are_sayable}
-use Rattle.tn_run.specs.Answer.{ChecksExtra, SessionExtra, FirmsExtra, JudgesExtra, ReplaysExtra, SupportsExtra, IsAnswerOf, KeepsRules}
+use Rattle.tn_run.specs.Answer.{ChecksExtra, SessionExtra, FirmsExtra, JudgesExtra, ReplaysExtra, SupportsExtra, IsAnswerOf, IsAnswerTo, KeepsRules}
 use Rattle.tn_price.proofs.CycleLemmas.{nodes_inside}
 use Rattle.tn_commands.specs.Session.{TellsStates}
 use Rattle.tn_commands.specs.Judge.{JudgesOutcome}
@@ -44,22 +44,20 @@ use Rattle.tn_price.proofs.JudgeLemmas.{some_item}
 use Rattle.tn_raw_answers.specs.Test.{Tests}
 use Rattle.tn_run.proofs.OwnLemmas.{firm_named, bundle_named, bundle_ascends, failure_named, failure_ascends, set_named}
 use Rattle.tn_run.proofs.ReplayLemmas.{decided_named, decided_ascends}
-use Rattle.tn_run.specs.Words.{need_of}
-use Rattle.tn_run.specs.declared.command.Command.{Command}
-use Rattle.tn_run.specs.declared.command.Command.TheVariants.{Check, Firms, Judge, Range, Replay, Session, Solve, Support, Test}
+use Rattle.tn_file.specs.declared.command.Command.TheVariants.{Check, Firms, Judge, Range, Replay, Session, Solve, Support, Test}
 
-module _ (need : Need) (doc : DocumentData) (is : IsDocument need doc) where
+module _ (command : Command) (doc : DocumentData) (is : IsDocument command doc) where
   -- the answer of `check`
   judged_named : (scale : ℤ) (on : ℕ) (prices : ℕ → ℤ) (said : Said) → ChecksArrangement doc.firms doc.ends scale on prices said
       → IsNamedAnswer doc.names said
   judged_named scale on prices (Equilibrium surplus) judges = tt
   judged_named scale on prices (Better f bundle gain) judges =
       let bettered = judges.1 in (
-        firm_named need doc is f bettered.firm bettered.is,
+        firm_named command doc is f bettered.firm bettered.is,
         subst (All (IsNamed doc.names.trades)) (sym judges.2)
-            (bundle_named need doc is f bettered.firm judges.0 bettered.is),
+            (bundle_named command doc is f bettered.firm judges.0 bettered.is),
       )
-  judged_named scale on prices (Impossible f) judges = firm_named need doc is f judges.firm judges.is
+  judged_named scale on prices (Impossible f) judges = firm_named command doc is f judges.firm judges.is
   judged_named scale on prices said judges = absurd judges
 
   checked_named : (extra : ExtraData) (said : Said) → ChecksExtra doc extra said → IsNamedAnswer doc.names said
@@ -77,9 +75,9 @@ module _ (need : Need) (doc : DocumentData) (is : IsDocument need doc) where
         let holding = tells.0.each k firm.0 (get_or told k d) firm.1 (slice_get-get_or told k d below) in
         record {
           best = subst (All (IsNamed doc.names.trades)) (sym holding.best_is)
-              (bundle_named need doc is k firm.0 holding.bundle firm.1);
+              (bundle_named command doc is k firm.0 holding.bundle firm.1);
           has = subst (All (IsNamed doc.names.trades)) (sym holding.has_is)
-              (bundle_named need doc is k firm.0 (part doc.ends k firm.0.count on) firm.1);
+              (bundle_named command doc is k firm.0 (part doc.ends k firm.0.count on) firm.1);
         }),
   )
   told_named on prices said tells = absurd tells
@@ -96,9 +94,9 @@ module _ (need : Need) (doc : DocumentData) (is : IsDocument need doc) where
       let holding = tells.0.each k firm.0 (get_or told k d) firm.1 (slice_get-get_or told k d below) in
       record {
         best = subst IsStrictlyIncreasing (sym holding.best_is)
-            (bundle_ascends need doc is k firm.0 holding.bundle firm.1);
+            (bundle_ascends command doc is k firm.0 holding.bundle firm.1);
         has = subst IsStrictlyIncreasing (sym holding.has_is)
-            (bundle_ascends need doc is k firm.0 (part doc.ends k firm.0.count on) firm.1);
+            (bundle_ascends command doc is k firm.0 (part doc.ends k firm.0.count on) firm.1);
       }
   told_ascends on prices said tells = absurd tells
 
@@ -109,7 +107,7 @@ module _ (need : Need) (doc : DocumentData) (is : IsDocument need doc) where
   -- the answer of `test`
   tested_named : (said : Said) → Tests doc.firms doc.ends said → IsNamedAnswer doc.names said
   tested_named Accepted tests = tt
-  tested_named (ExchangeFails f x y at) tests = failure_named need doc is f x y at tests
+  tested_named (ExchangeFails f x y at) tests = failure_named command doc is f x y at tests
   tested_named said tests = absurd tests
 
   -- their lists of trades ascend
@@ -118,7 +116,7 @@ module _ (need : Need) (doc : DocumentData) (is : IsDocument need doc) where
   judged_ascends scale on prices (Equilibrium surplus) judges = tt
   judged_ascends scale on prices (Better f bundle gain) judges =
       let bettered = judges.1 in
-      subst IsStrictlyIncreasing (sym judges.2) (bundle_ascends need doc is f bettered.firm judges.0 bettered.is)
+      subst IsStrictlyIncreasing (sym judges.2) (bundle_ascends command doc is f bettered.firm judges.0 bettered.is)
   judged_ascends scale on prices (Impossible f) judges = tt
   judged_ascends scale on prices said judges = absurd judges
 
@@ -128,7 +126,7 @@ module _ (need : Need) (doc : DocumentData) (is : IsDocument need doc) where
 
   tested_ascends : (said : Said) → Tests doc.firms doc.ends said → HasAscendingTrades said
   tested_ascends Accepted tests = tt
-  tested_ascends (ExchangeFails f x y at) tests = failure_ascends need doc is f x y at tests
+  tested_ascends (ExchangeFails f x y at) tests = failure_ascends command doc is f x y at tests
   tested_ascends said tests = absurd tests
 
   -- the ends of the trades
@@ -139,19 +137,19 @@ module _ (need : Need) (doc : DocumentData) (is : IsDocument need doc) where
         let trade = get_or ends t d in
         let sold = is.network.sold t trade (subst (λ (all : List Ends). slice_get all t ≡ Some trade) same
         (slice_get-get_or ends t d below)) in
-        firm_named need doc is trade.seller sold.0 sold.1;
+        firm_named command doc is trade.seller sold.0 sold.1;
     buyers = λ t d below.
         let trade = get_or ends t d in
         let bought =
         is.network.bought t trade (subst (λ (all : List Ends). slice_get all t ≡ Some trade) same
         (slice_get-get_or ends t d below)) in
-        firm_named need doc is trade.buyer bought.0 bought.1;
+        firm_named command doc is trade.buyer bought.0 bought.1;
   }
 
   -- the answer of `solve`
   solved_named : (said : Said) → Solves doc.firms doc.ends said → IsNamedAnswer doc.names said
   solved_named (Solved on prices surplus ends) solves = (
-    set_named need doc is solves.0.set on solves.0.on_is,
+    set_named command doc is solves.0.set on solves.0.on_is,
     solves.0.one_each ∙ sym is.trades_named,
     ends_named ends solves.1,
   )
@@ -160,7 +158,7 @@ module _ (need : Need) (doc : DocumentData) (is : IsDocument need doc) where
   -- the answer of `range`
   ranged_named : (said : Said) → TellsRanges doc.firms doc.ends said → IsNamedAnswer doc.names said
   ranged_named (Ranges on ranges ends) tells = (
-    set_named need doc is tells.0.set on tells.0.on_is,
+    set_named command doc is tells.0.set on tells.0.on_is,
     tells.0.each.one_each ∙ sym is.trades_named,
     (λ k d below.
         let range = tells.0.each.each k (get_or ranges k d) (slice_get-get_or ranges k d below) in
@@ -190,7 +188,7 @@ module _ (need : Need) (doc : DocumentData) (is : IsDocument need doc) where
       let state = (tells.each k (get_or states k d) (slice_get-get_or states k d below)).is in
       let allowed = (tells.each k (get_or states k d) (slice_get-get_or states k d below)).allowed in
       record {
-        on = set_named need doc is state.set (get_or states k d).on state.on_is;
+        on = set_named command doc is state.set (get_or states k d).on state.on_is;
         prices = subst (All (λ contract. IsNamed doc.names.trades contract.trade)) (sym state.prices_are)
             (subst (λ n. All (λ contract. contract.trade < n) (contracts_of allowed (price_at state.prices)
             (length doc.ends))) (sym is.trades_named)
@@ -223,9 +221,9 @@ module _ (need : Need) (doc : DocumentData) (is : IsDocument need doc) where
 
   -- the answer of `support`
   supported_named : (on : ℕ) (said : Said) → SupportsSet doc.firms doc.ends on said → IsNamedAnswer doc.names said
-  supported_named on (Impossible f) supports = firm_named need doc is f supports.0.firm supports.0.is
+  supported_named on (Impossible f) supports = firm_named command doc is f supports.0.firm supports.0.is
   supported_named on (Supported listed prices ends) supports = (
-    set_named need doc is on listed supports.2,
+    set_named command doc is on listed supports.2,
     supports.0.one_each ∙ sym is.trades_named,
     ends_named ends supports.3,
   )
@@ -259,8 +257,8 @@ module _ (need : Need) (doc : DocumentData) (is : IsDocument need doc) where
       → JudgesOutcome doc.firms doc.ends over contracts said → IsNamedAnswer doc.names said
   outcome_named over contracts (Drops f keeps gain told) judges =
       let first = judges.1 in (
-        firm_named need doc is f first.firm first.is,
-        subst (All (IsNamed doc.names.trades)) (sym judges.2) (bundle_named need doc is f first.firm judges.0 first.is),
+        firm_named command doc is f first.firm first.is,
+        subst (All (IsNamed doc.names.trades)) (sym judges.2) (bundle_named command doc is f first.firm judges.0 first.is),
       )
   outcome_named over contracts (Completes prices told) judges = judges.1.one_each ∙ sym is.trades_named
   outcome_named over contracts (Blocks offers told) judges = λ k d below.
@@ -276,7 +274,7 @@ module _ (need : Need) (doc : DocumentData) (is : IsDocument need doc) where
       → JudgesOutcome doc.firms doc.ends over contracts said → HasAscendingTrades said
   outcome_ascends over contracts (Drops f keeps gain told) judges =
       let first = judges.1 in
-      subst IsStrictlyIncreasing (sym judges.2) (bundle_ascends need doc is f first.firm judges.0 first.is)
+      subst IsStrictlyIncreasing (sym judges.2) (bundle_ascends command doc is f first.firm judges.0 first.is)
   outcome_ascends over contracts (Completes prices told) judges = tt
   outcome_ascends over contracts (Blocks offers told) judges = tt
   outcome_ascends over contracts said judges = absurd judges
@@ -288,37 +286,37 @@ module _ (need : Need) (doc : DocumentData) (is : IsDocument need doc) where
   -- the answer of `replay`
   replayed_named : (extra : ExtraData) (said : Said) → IsExtra doc.firms doc.ends extra → ReplaysExtra doc extra said
       → IsNamedAnswer doc.names said
-  replayed_named (claim claimed) said within decides = decided_named need doc is claimed said within decides
+  replayed_named (claim claimed) said within decides = decided_named command doc is claimed said within decides
   replayed_named extra said within decides = absurd decides
 
   replayed_ascends : (extra : ExtraData) (said : Said) → ReplaysExtra doc extra said → HasAscendingTrades said
-  replayed_ascends (claim claimed) said decides = decided_ascends need doc is claimed said decides
+  replayed_ascends (claim claimed) said decides = decided_ascends command doc is claimed said decides
   replayed_ascends extra said decides = absurd decides
 
 -- the answer of a command on a document
-document_ascends : (command : Command) (doc : DocumentData) → IsDocument (need_of command) doc → (said : Said)
+document_ascends : (command : Command) (doc : DocumentData) → IsDocument command doc → (said : Said)
     → IsAnswerOf command doc said → HasAscendingTrades said
-document_ascends Check doc is said answer = checked_ascends (need_of Check) doc is doc.extra said answer
-document_ascends Firms doc is said answer = firms_ascend (need_of Firms) doc is doc.extra said answer
-document_ascends Judge doc is said answer = judged_outcome_ascends (need_of Judge) doc is doc.extra said answer
-document_ascends Range doc is said answer = ranged_ascends (need_of Range) doc is said answer
-document_ascends Replay doc is said answer = replayed_ascends (need_of Replay) doc is doc.extra said answer
-document_ascends Session doc is said answer = edited_ascends (need_of Session) doc is doc.extra said answer
-document_ascends Solve doc is said answer = solved_ascends (need_of Solve) doc is said answer
-document_ascends Support doc is said answer = priced_ascends (need_of Support) doc is doc.extra said answer
-document_ascends Test doc is said answer = tested_ascends (need_of Test) doc is said answer
+document_ascends Check doc is said answer = checked_ascends Check doc is doc.extra said answer
+document_ascends Firms doc is said answer = firms_ascend Firms doc is doc.extra said answer
+document_ascends Judge doc is said answer = judged_outcome_ascends Judge doc is doc.extra said answer
+document_ascends Range doc is said answer = ranged_ascends Range doc is said answer
+document_ascends Replay doc is said answer = replayed_ascends Replay doc is doc.extra said answer
+document_ascends Session doc is said answer = edited_ascends Session doc is doc.extra said answer
+document_ascends Solve doc is said answer = solved_ascends Solve doc is said answer
+document_ascends Support doc is said answer = priced_ascends Support doc is doc.extra said answer
+document_ascends Test doc is said answer = tested_ascends Test doc is said answer
 
-document_named : (command : Command) (doc : DocumentData) → IsDocument (need_of command) doc → (said : Said)
+document_named : (command : Command) (doc : DocumentData) → IsDocument command doc → (said : Said)
     → IsAnswerOf command doc said → IsNamedAnswer doc.names said
-document_named Check doc is said answer = checked_named (need_of Check) doc is doc.extra said answer
-document_named Firms doc is said answer = firms_named (need_of Firms) doc is doc.extra said answer
-document_named Judge doc is said answer = judged_outcome_named (need_of Judge) doc is doc.extra said answer
-document_named Range doc is said answer = ranged_named (need_of Range) doc is said answer
-document_named Replay doc is said answer = replayed_named (need_of Replay) doc is doc.extra said is.extra answer
-document_named Session doc is said answer = edited_named (need_of Session) doc is doc.extra said answer
-document_named Solve doc is said answer = solved_named (need_of Solve) doc is said answer
-document_named Support doc is said answer = priced_named (need_of Support) doc is doc.extra said answer
-document_named Test doc is said answer = tested_named (need_of Test) doc is said answer
+document_named Check doc is said answer = checked_named Check doc is doc.extra said answer
+document_named Firms doc is said answer = firms_named Firms doc is doc.extra said answer
+document_named Judge doc is said answer = judged_outcome_named Judge doc is doc.extra said answer
+document_named Range doc is said answer = ranged_named Range doc is said answer
+document_named Replay doc is said answer = replayed_named Replay doc is doc.extra said is.extra answer
+document_named Session doc is said answer = edited_named Session doc is doc.extra said answer
+document_named Solve doc is said answer = solved_named Solve doc is said answer
+document_named Support doc is said answer = priced_named Support doc is doc.extra said answer
+document_named Test doc is said answer = tested_named Test doc is said answer
 
 -- what is said of a document is no fault
 no_fault : (command : Command) (doc : DocumentData) (fault : FaultIs) → IsAnswerOf command doc (Fault fault) → ⊥
@@ -363,7 +361,7 @@ document_short command doc (Fault fault) answer within = absurd (no_fault comman
 document_short command doc said answer within = within_sayable said within
 
 -- it keeps the rules
-document_kept : (command : Command) (doc : DocumentData) → IsDocument (need_of command) doc → (said : Said)
+document_kept : (command : Command) (doc : DocumentData) → IsDocument command doc → (said : Said)
     → IsAnswerOf command doc said → IsWithinClaims said → KeepsRules doc.names said
 document_kept command doc is said answer within = record {
   named = document_named command doc is said answer;
@@ -375,14 +373,41 @@ document_kept command doc is said answer within = record {
   trade_names = is.trade_names;
 }
 
-pub kept_if_ok : {E : Type 0} (command : Command) (doc : DocumentData) → IsDocument (need_of command) doc
-    → (result : Result (Said × NameLists) E)
-    → IfOk result (λ told. IsAnswerOf command doc told.0) → IfOk result (λ told. told.1 ≡ doc.names)
-    → IfOk result (λ told. IsWithinClaims told.0) → IfOk result (λ told. KeepsRules told.1 told.0)
-kept_if_ok command doc is (Ok told) answer named within =
-    subst (λ (names : NameLists). KeepsRules names told.0) (sym named)
-    (document_kept command doc is told.0 answer within)
-kept_if_ok command doc is (Err e) answer named within = tt
+module _ {E : Type 0} (command : Command) (doc : Document) (result : Result (Said × NameLists) E) where
+  -- what answers the command that the document was read for
+  for_command : command_of doc.content ≡ command
+      → IfOk result (λ told. IsAnswerOf (command_of doc.content) (document_view doc) told.0)
+      → IfOk result (λ told. IsAnswerOf command (document_view doc) told.0)
+  for_command same answer =
+      subst (λ (asked : Command). IfOk result (λ told. IsAnswerOf asked (document_view doc) told.0)) same answer
+
+  pub kept_if_ok : IsDocument command (document_view doc) → command_of doc.content ≡ command
+      → IfOk result (λ told. IsAnswerOf (command_of doc.content) (document_view doc) told.0)
+      → IfOk result (λ told. told.1 ≡ (document_view doc).names) → IfOk result (λ told. IsWithinClaims told.0)
+      → IfOk result (λ told. KeepsRules told.1 told.0)
+  kept_if_ok is same answer named within = by_result result (for_command same answer) named within
+    where
+      by_result : (r : Result (Said × NameLists) E) → IfOk r (λ told. IsAnswerOf command (document_view doc) told.0)
+          → IfOk r (λ told. told.1 ≡ (document_view doc).names) → IfOk r (λ told. IsWithinClaims told.0)
+          → IfOk r (λ told. KeepsRules told.1 told.0)
+      by_result (Ok told) answer named within =
+          subst (λ (names : NameLists). KeepsRules names told.0) (sym named)
+          (document_kept command (document_view doc) is told.0 answer within)
+      by_result (Err e) answer named within = tt
+
+  -- it is the answer to the bytes that read so
+  pub answered_for : (bytes : List ℕ) → reading_of command bytes ≡ Ok (document_view doc)
+      → command_of doc.content ≡ command
+      → IfOk result (λ told. IsAnswerOf (command_of doc.content) (document_view doc) told.0)
+      → IfOk result (λ told. told.1 ≡ (document_view doc).names)
+      → IfOk result (λ told. IsAnswerTo command (reading_of command bytes) told.1 told.0)
+  answered_for bytes reads same answer named = by_result result (for_command same answer) named
+    where
+      by_result : (r : Result (Said × NameLists) E) → IfOk r (λ told. IsAnswerOf command (document_view doc) told.0)
+          → IfOk r (λ told. told.1 ≡ (document_view doc).names)
+          → IfOk r (λ told. IsAnswerTo command (reading_of command bytes) told.1 told.0)
+      by_result (Ok told) answer named = rw reads (answer, named)
+      by_result (Err e) answer named = tt
 
 -- so does a fault
 pub stop_kept : (fault : FaultIs) (names : NameLists) → IsStop (record { fault = fault; names = names })
@@ -397,16 +422,10 @@ stop_kept fault names stop = record {
   trade_names = stop.trade_names;
 }
 
--- a document that was read for a command
-pub document_read : (command : Command) (need : Need) (bytes : List ℕ) (doc : DocumentData) → need ≡ need_of command
-    → reading_of need bytes ≡ Ok doc → IsDocument (need_of command) doc
-document_read command need bytes doc same e =
-    subst (λ (n : Need). IsDocument n doc) same (documents_are_networks need bytes doc e)
-
 -- a refusal for a fault is a stop
-pub stop_read : (need : Need) (bytes : List ℕ) (refusal : DocRefusal) (fault : FaultIs) (names : NameLists)
-    → refusal ≡ DocRefusal.Fault fault names → Reads document_view (Err refusal) (reading_of need bytes)
+pub stop_read : (command : Command) (bytes : List ℕ) (refusal : DocRefusal) (fault : FaultIs) (names : NameLists)
+    → refusal ≡ DocRefusal.Fault fault names → Reads document_view (Err refusal) (reading_of command bytes)
     → IsStop (record { fault = fault; names = names })
-stop_read need bytes refusal fault names same reads =
-    faults_are_sayable need bytes (record { fault = fault; names = names })
-    (subst (λ (e : DocRefusal). Reads document_view (Err e) (reading_of need bytes)) same reads)
+stop_read command bytes refusal fault names same reads =
+    faults_are_sayable command bytes (record { fault = fault; names = names })
+    (subst (λ (e : DocRefusal). Reads document_view (Err e) (reading_of command bytes)) same reads)

@@ -5,7 +5,7 @@ use Rattle.std.specs.List.Sorted.{IsStrictlyIncreasing}
 use Rattle.std.proofs.lemmas.Option.{slice_get_within}
 use Rattle.tn_base.specs.Firm.{Firm}
 use Rattle.tn_cert.specs.Reasons.{IsFirstToFail}
-use Rattle.tn_file.specs.declared.need.Need.{Need}
+use Rattle.tn_file.specs.declared.command.Command.{Command}
 use Rattle.tn_file.specs.Document.{DocumentData}
 use Rattle.tn_file.specs.Laws.{IsDocument}
 use Rattle.tn_local.proofs.FirstLemmas.{triple_fails}
@@ -14,7 +14,7 @@ use Rattle.tn_model.specs.Network.{own, trades_of, trades_on}
 use Rattle.tn_model.proofs.NetworkLemmas.{ascending_trades, on_ascends, on_below}
 use Rattle.tn_names.specs.Named.{IsNamed, IsNamedTriple, IsAscendingTriple}
 
-module _ (need : Need) (doc : DocumentData) (is : IsDocument need doc) where
+module _ (command : Command) (doc : DocumentData) (is : IsDocument command doc) where
   pub firm_named : (f : ℕ) (firm : Firm) → slice_get doc.firms f ≡ Some firm → IsNamed doc.names.firms f
   firm_named f firm at = subst (λ n. f < n) (sym is.firms_named) (slice_get_within doc.firms f firm at)
 

@@ -13,7 +13,7 @@ use Rattle.tn_cert.specs.Claims.{node_of}
 use Rattle.tn_cert.specs.Reasons.{LacksBest, RefutesEquilibrium, RefutesBetter, RefutesCycle, RefutesDrops, RefutesCompletes, RefutesBlocks, IsFirstUnsigned, IsFirstMispriced, Refutes}
 use Rattle.tn_cert.specs.Plans.{RefutesPlan}
 use Rattle.tn_commands.specs.Replay.{DecidesClaim}
-use Rattle.tn_file.specs.declared.need.Need.{Need}
+use Rattle.tn_file.specs.declared.command.Command.{Command}
 use Rattle.tn_file.specs.Document.{DocumentData}
 use Rattle.tn_file.specs.Laws.{IsDocument}
 use Rattle.tn_said.specs.declared.claim.Claim.{Claim}
@@ -32,19 +32,19 @@ use Rattle.tn_market.specs.Signed.{signed}
 use Rattle.tn_names.specs.Named.{IsNamed}
 use Rattle.tn_run.proofs.OwnLemmas.{firm_named, own_named, trade_named, bundle_named, bundle_ascends, failure_named, failure_ascends, set_named, set_ascends}
 
-module _ (need : Need) (doc : DocumentData) (is : IsDocument need doc) where
+module _ (command : Command) (doc : DocumentData) (is : IsDocument command doc) where
   -- the claimed firm
   claimed_named : {holds : Firm → Type 0} (f g : ℕ) → g ≡ f → IsFirmWith doc.firms f holds → IsNamed doc.names.firms g
   claimed_named f g same with_firm =
-      subst (IsNamed doc.names.firms) (sym same) (firm_named need doc is f with_firm.0 with_firm.1)
+      subst (IsNamed doc.names.firms) (sym same) (firm_named command doc is f with_firm.0 with_firm.1)
 
   lack_named : (scale : ℤ) (on : ℕ) (prices : ℕ → ℤ) (reason : Reason)
       → LacksBest doc.firms doc.ends scale on prices reason → IsNamedReason doc.names reason
-  lack_named scale on prices (ImpossibleIs f) lacks = firm_named need doc is f lacks.firm lacks.is
+  lack_named scale on prices (ImpossibleIs f) lacks = firm_named command doc is f lacks.firm lacks.is
   lack_named scale on prices (BetterIs f bundle) lacks =
       let first = lacks.2 in (
-        firm_named need doc is f first.firm first.is,
-        subst (All (IsNamed doc.names.trades)) (sym lacks.3) (bundle_named need doc is f first.firm lacks.0 first.is),
+        firm_named command doc is f first.firm first.is,
+        subst (All (IsNamed doc.names.trades)) (sym lacks.3) (bundle_named command doc is f first.firm lacks.0 first.is),
       )
   lack_named scale on prices reason lacks = absurd lacks
 
@@ -61,7 +61,7 @@ module _ (need : Need) (doc : DocumentData) (is : IsDocument need doc) where
 
   cycle_named : (on : ℕ) (nodes : List ℕ) (claimed : ℤ) (reason : Reason)
       → RefutesCycle doc.firms doc.ends on nodes claimed reason → IsNamedReason doc.names reason
-  cycle_named on nodes claimed (ImpossibleIs f) refutes = firm_named need doc is f refutes.firm refutes.is
+  cycle_named on nodes claimed (ImpossibleIs f) refutes = firm_named command doc is f refutes.firm refutes.is
   cycle_named on nodes claimed (Arc index) refutes = tt
   cycle_named on nodes claimed (Cost cost) refutes = tt
   cycle_named on nodes claimed reason refutes = absurd refutes
@@ -70,7 +70,7 @@ module _ (need : Need) (doc : DocumentData) (is : IsDocument need doc) where
       → IsFirstUnsigned doc.ends outcome f keeps t → IsNamed doc.names.trades t
   unsigned_named outcome f keeps t own_firm unsigned =
       subst (IsNamed doc.names.trades) unsigned.is
-      (own_named need doc is f own_firm.0 own_firm.1 unsigned.at
+      (own_named command doc is f own_firm.0 own_firm.1 unsigned.at
       (has_below keeps own_firm.0.count unsigned.at own_firm.2 unsigned.member))
 
   drops_named : (outcome : Outcome) (f keeps : ℕ) (claimed : Option ℤ) (over : ℤ) (reason : Reason)
@@ -89,7 +89,7 @@ module _ (need : Need) (doc : DocumentData) (is : IsDocument need doc) where
       let known = All-get_or (λ (contract : Contract). contract.trade < length doc.ends) outcome.contracts mispriced.at
       mispriced.contract (slice_get_within outcome.contracts mispriced.at mispriced.contract mispriced.is)
       within.contracts.known in
-      trade_named need doc is t
+      trade_named command doc is t
       (subst (λ n. n < length doc.ends) mispriced.trade
       (subst (λ (contract : Contract). contract.trade < length doc.ends)
       (get_or_from_slice_get outcome.contracts mispriced.at mispriced.contract mispriced.contract mispriced.is)
@@ -106,7 +106,7 @@ module _ (need : Need) (doc : DocumentData) (is : IsDocument need doc) where
   offer_named : (offers : List Contract) (k t : ℕ) (offer : Contract) → AreOffersWithin doc.ends offers
       → slice_get offers k ≡ Some offer → offer.trade ≡ t → IsNamed doc.names.trades t
   offer_named offers k t offer within at same =
-      subst (IsNamed doc.names.trades) same (trade_named need doc is offer.trade (within.feasible.known k offer at))
+      subst (IsNamed doc.names.trades) same (trade_named command doc is offer.trade (within.feasible.known k offer at))
 
   blocks_named : (outcome : Outcome) (offers : List Contract) (e : ℤ) (reason : Reason)
       → AreOffersWithin doc.ends offers
@@ -116,7 +116,7 @@ module _ (need : Need) (doc : DocumentData) (is : IsDocument need doc) where
       offer_named offers refutes.at t refutes.offer within refutes.is refutes.trade
   blocks_named outcome offers e (Choice f t) within refutes =
       let leaves = refutes.2 in (
-        firm_named need doc is f leaves.firm leaves.is,
+        firm_named command doc is f leaves.firm leaves.is,
         offer_named offers leaves.at t leaves.offer within leaves.offered leaves.trade,
       )
   blocks_named outcome offers e reason within refutes = absurd refutes
@@ -125,9 +125,9 @@ module _ (need : Need) (doc : DocumentData) (is : IsDocument need doc) where
       → IsNamedReason doc.names reason
   plan_named plan over (Shares f) refutes = subst (λ n. f < n) (sym is.firms_named) refutes.0
   plan_named plan over (ImpossibleIs f) refutes = claimed_named f f refl refutes.2
-  plan_named plan over (Balance t) refutes = trade_named need doc is t (slice_get_within doc.ends t refutes.3 refutes.4)
+  plan_named plan over (Balance t) refutes = trade_named command doc is t (slice_get_within doc.ends t refutes.3 refutes.4)
   plan_named plan over (Whole on surplus) refutes = let whole = refutes.3 in
-      set_named need doc is whole.on on whole.listed_is
+      set_named command doc is whole.on on whole.listed_is
   plan_named plan over reason refutes = absurd refutes
 
   reason_named : (claim : Claim) (reason : Reason) → IsClaimWithin doc.firms doc.ends claim
@@ -150,7 +150,7 @@ module _ (need : Need) (doc : DocumentData) (is : IsDocument need doc) where
   reason_named (Blocks outcome contracts over) reason within refutes =
       blocks_named outcome contracts over reason within.1 refutes
   reason_named (NoPrices plan over) reason within refutes = plan_named plan over reason refutes
-  reason_named Accepted (Exchange f x y at) within refutes = failure_named need doc is f x y at refutes
+  reason_named Accepted (Exchange f x y at) within refutes = failure_named command doc is f x y at refutes
   reason_named Accepted reason within refutes = absurd refutes
   reason_named (ExchangeFails f x y at) Holds within refutes = tt
   reason_named (ExchangeFails f x y at) reason within refutes = absurd refutes
@@ -165,7 +165,7 @@ module _ (need : Need) (doc : DocumentData) (is : IsDocument need doc) where
   better_ascends : (scale : ℤ) (on : ℕ) (prices : ℕ → ℤ) (f : ℕ) (bundle : List ℕ)
       → LacksBest doc.firms doc.ends scale on prices (BetterIs f bundle) → IsStrictlyIncreasing bundle
   better_ascends scale on prices f bundle lacks = let first = lacks.2 in
-      subst IsStrictlyIncreasing (sym lacks.3) (bundle_ascends need doc is f first.firm lacks.0 first.is)
+      subst IsStrictlyIncreasing (sym lacks.3) (bundle_ascends command doc is f first.firm lacks.0 first.is)
 
   better_reason : (claim : Claim) (f : ℕ) (bundle : List ℕ) → Refutes doc.firms doc.ends claim (BetterIs f bundle)
       → IsStrictlyIncreasing bundle
@@ -187,7 +187,7 @@ module _ (need : Need) (doc : DocumentData) (is : IsDocument need doc) where
 
   exchange_reason : (claim : Claim) (f : ℕ) (x y : List ℕ) (at : Option ℕ)
       → Refutes doc.firms doc.ends claim (Exchange f x y at) → HasAscendingBundles (Exchange f x y at)
-  exchange_reason Accepted f x y at refutes = failure_ascends need doc is f x y at refutes
+  exchange_reason Accepted f x y at refutes = failure_ascends command doc is f x y at refutes
   exchange_reason (Equilibrium arranged surplus) f x y at refutes = absurd refutes
   exchange_reason (Solved arranged surplus) f x y at refutes = absurd refutes
   exchange_reason (Supported on prices) f x y at refutes = absurd refutes
@@ -203,7 +203,7 @@ module _ (need : Need) (doc : DocumentData) (is : IsDocument need doc) where
   whole_reason : (claim : Claim) (on : List ℕ) (surplus : ℤ) → Refutes doc.firms doc.ends claim (Whole on surplus)
       → IsStrictlyIncreasing on
   whole_reason (NoPrices plan over) on surplus refutes = let whole = refutes.3 in
-      set_ascends need doc is whole.on on whole.listed_is
+      set_ascends command doc is whole.on on whole.listed_is
   whole_reason (Equilibrium at told) on surplus refutes = absurd refutes
   whole_reason (Solved at told) on surplus refutes = absurd refutes
   whole_reason (Supported set prices) on surplus refutes = absurd refutes

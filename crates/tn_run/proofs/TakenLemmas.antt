@@ -6,7 +6,7 @@ use Rattle.tn_said.specs.declared.said.Said.TheVariants.{Usage, ReadFault, NoMem
 use Rattle.tn_io.specs.Source.{TakesAtMost}
 use Rattle.tn_io.proofs.Taken.{Consumes-TakesFirst}
 use Rattle.tn_names.specs.Names.{NameLists}
-use Rattle.tn_run.specs.declared.command.Command.{Command}
+use Rattle.tn_file.specs.declared.command.Command.{Command}
 use Rattle.tn_run.specs.declared.request.Request.{Request}
 use Rattle.tn_run.specs.declared.request.Request.TheVariants.{Document, Drill, Cases}
 use Rattle.tn_run.specs.Answer.{document_limit, AnswersBytes, MayBeSaid}

@@ -1,5 +1,5 @@
 -- The verdict on an arrangement is the answer of `check`, which alone reads a market with one.
-use Rattle.std.proofs.Common.{pos, map, Result, sym, true≢false}
+use Rattle.std.proofs.Common.{pos, map, Result}
 use Rattle.std.specs.Prelude.{IfOk}
 use Rattle.std.proofs.lemmas.Result.{IfOk-weaker}
 use Rattle.tn_model.specs.declared.arrangement.Arrangement.{Arrangement as ArrangementIs}
@@ -12,26 +12,21 @@ use Rattle.tn_commands.specs.Check.{ChecksArrangement}
 use Rattle.tn_market.specs.Traded.{Traded}
 use Rattle.tn_commands.proofs.CheckLemmas.{judged_implies}
 use Rattle.tn_file.specs.declared.document.Content.TheVariants.{Market}
-use Rattle.tn_file.specs.declared.extra.Extra.TheVariants.{Arrangement}
+use Rattle.tn_file.specs.declared.asked.Asked.TheVariants.{Check as AskedCheck}
 use Rattle.tn_file.specs.Laws.{IsDocument}
-use Rattle.tn_file.specs.Refusal.{IsFor, document_view}
-use Rattle.tn_run.specs.declared.command.Command.{Command}
-use Rattle.tn_run.specs.declared.command.Command.TheVariants.{Check, Firms}
+use Rattle.tn_file.specs.Refusal.{document_view}
+use Rattle.tn_file.specs.declared.command.Command.TheVariants.{Check}
 use Rattle.tn_run.specs.Answer.{IsAnswerOf}
-use Rattle.tn_run.specs.Words.{need_of}
 
-pub verdict_answers : {E : Type 0} (command : Command) (names : NameLists) (market : Traded FirmValue)
-    (at : ArrangementIs 16) (result : Result Said E) → IsFor (need_of command) (Market market (Arrangement at))
-    → IsDocument (need_of command) (document_view (record { names = names; content = Market market (Arrangement at) }))
+pub verdict_answers : {E : Type 0} (names : NameLists) (market : Traded FirmValue) (at : ArrangementIs 16)
+    (result : Result Said E)
+    → IsDocument Check (document_view (record { names = names; content = Market market (AskedCheck at) }))
     → IfOk result (ChecksArrangement (map firm_of market.firms) market.trades (pos 1) at.on (price_at at.prices))
-    → IfOk result
-    (IsAnswerOf command (document_view (record { names = names; content = Market market (Arrangement at) })))
-verdict_answers Check names market at result needed document judges =
+    → IfOk result (IsAnswerOf Check (document_view (record { names = names; content = Market market (AskedCheck at) })))
+verdict_answers names market at result document judges =
     IfOk-weaker result _ _
     (λ said verdict. (
       verdict,
       judged_implies (map firm_of market.firms) market.trades at.on (price_at at.prices)
           said document.network verdict,
     )) judges
-verdict_answers Firms names market at result needed document judges = absurd (true≢false (sym needed.1))
-verdict_answers command names market at result needed document judges = absurd needed.0

@@ -13,11 +13,11 @@ use Rattle.tn_io.specs.Counts.{Rose}
 use Rattle.tn_io.specs.Source.{TakesFirst, TakesAtMost}
 use Rattle.tn_answer.specs.Apart.{HasShortNumbers, IsNamedAnswer}
 use Rattle.tn_answer.specs.Kept.{HasAscendingTrades, IsWithinClaims}
-use Rattle.tn_names.specs.Names.{NameLists, IsNameList, no_names}
+use Rattle.tn_names.specs.Names.{NameLists, IsNameList}
 use Rattle.tn_read_head.specs.Beside.{Stop}
-use Rattle.tn_file.specs.Document.{DocumentData, ExtraData, nothing, arrangement, on_alone, outcome, edits, claim, reading_of}
-use Rattle.tn_run.specs.declared.command.Command.{Command}
-use Rattle.tn_run.specs.declared.command.Command.TheVariants.{Check, Firms, Judge, Range, Replay, Session, Solve, Support, Test}
+use Rattle.tn_file.specs.Document.{DocumentData, ExtraData, arrangement, on_alone, outcome, edits, claim, reading_of}
+use Rattle.tn_file.specs.declared.command.Command.{Command}
+use Rattle.tn_file.specs.declared.command.Command.TheVariants.{Check, Firms, Judge, Range, Replay, Session, Solve, Support, Test}
 use Rattle.tn_commands.specs.Implied.{IsEfficientAndStable}
 use Rattle.tn_commands.specs.Replay.{DecidesClaim}
 use Rattle.tn_commands.specs.Session.{TellsStates}
@@ -27,7 +27,6 @@ use Rattle.tn_commands.specs.Solve.{Solves}
 use Rattle.tn_commands.specs.Support.{SupportsSet}
 use Rattle.tn_raw_answers.specs.Firms.{TellsHoldings}
 use Rattle.tn_raw_answers.specs.Test.{Tests}
-use Rattle.tn_run.specs.Words.{need_of}
 
 -- how many bytes a document may have
 abbrev pub document_limit : ℕ
@@ -76,10 +75,6 @@ IsAnswerOf Solve doc said = Solves doc.firms doc.ends said
 IsAnswerOf Support doc said = SupportsExtra doc doc.extra said
 IsAnswerOf Test doc said = Tests doc.firms doc.ends said
 
--- a network alone: what is read for a command that reads no more has these firms and trades, and names
-abbrev pub network_alone : List Firm → List Ends → DocumentData
-network_alone firms ends = record { names = no_names; firms = firms; ends = ends; extra = nothing }
-
 -- the defined answer where the bytes read so, over the names that are read
 abbrev pub IsAnswerTo : Command → Result DocumentData Stop → NameLists → Said → Type 0
 IsAnswerTo command (Ok doc) names said = IsAnswerOf command doc said × (names ≡ doc.names)
@@ -104,7 +99,7 @@ pub record AnswersWhole (command : Command) (old new : Option (List ℕ)) (names
   pub end : IsAtEnd new
   -- a source that tells its bytes told these
   pub told : IfSome old (λ all. bytes ≡ all)
-  pub answer : IsAnswerTo command (reading_of (need_of command) bytes) names said
+  pub answer : IsAnswerTo command (reading_of command bytes) names said
   pub kept : KeepsRules names said
 
 -- that the document is too long

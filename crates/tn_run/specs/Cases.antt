@@ -11,13 +11,13 @@ use Rattle.tn_names.specs.Names.{NameLists}
 use Rattle.tn_run.specs.Answer.{IsAnswerTo}
 use Rattle.tn_run.specs.Run.{status_of}
 use Rattle.tn_run.specs.Status.{status_number}
-use Rattle.tn_run.specs.Words.{case_command, case_layout, need_of}
-use Rattle.tn_run.specs.declared.command.Command.{Command}
+use Rattle.tn_run.specs.Words.{case_command, case_layout}
+use Rattle.tn_file.specs.declared.command.Command.{Command}
 
 -- the defined answer of a command to a document; usage where it is none
 abbrev pub IsCaseAnswer : Option Command → List ℕ → NameLists → Said → Type 0
 IsCaseAnswer None document names said = said ≡ Usage
-IsCaseAnswer (Some command) document names said = IsAnswerTo command (reading_of (need_of command) document) names said
+IsCaseAnswer (Some command) document names said = IsAnswerTo command (reading_of command document) names said
 
 -- the status and the text are those of a defined answer to the case's command on its document
 pub record IsAllowed (case : CaseData) (status : ℕ) (text : List ℕ) : Type 0 where

@@ -5,14 +5,13 @@ use Rattle.tn_said.specs.declared.said.Said.TheVariants.{NoMemory}
 use Rattle.tn_io.specs.Counts.{Rose}
 use Rattle.tn_names.specs.Names.{NameLists}
 use Rattle.tn_file.specs.Document.{reading_of}
-use Rattle.tn_run.specs.declared.command.Command.{Command}
+use Rattle.tn_file.specs.declared.command.Command.{Command}
 use Rattle.tn_run.specs.Answer.{document_limit, too_long, IsAnswerTo, KeepsRules}
 use Rattle.tn_run.specs.declared.request.Request.{Request}
 use Rattle.tn_run.specs.declared.request.Request.TheVariants.{Document}
 use Rattle.tn_run.specs.Request.{layout_of}
 use Rattle.tn_run.specs.Run.{IsWrittenWhole}
 use Rattle.tn_run.specs.Saying.{MaySayUnread}
-use Rattle.tn_run.specs.Words.{need_of}
 
 -- no fault was counted in a call
 abbrev pub NoneCounted : ℕ → ℕ → Type 0
@@ -20,7 +19,7 @@ NoneCounted before after = Rose before after → ⊥
 
 -- the answer to all bytes of a source: the defined one for them, which keeps the rules, or that they are too long
 pub record IsAnswerToAll (command : Command) (all : List ℕ) (names : NameLists) (said : Said) : Type 0 where
-  pub few : length all ≤ document_limit → IsAnswerTo command (reading_of (need_of command) all) names said
+  pub few : length all ≤ document_limit → IsAnswerTo command (reading_of command all) names said
   pub kept : length all ≤ document_limit → KeepsRules names said
   pub many : document_limit < length all → said ≡ too_long
 

@@ -7,10 +7,9 @@ use Rattle.tn_io.specs.Counts.{Rose}
 use Rattle.tn_read_head.specs.Beside.{Stop}
 use Rattle.tn_said.specs.declared.said.Said.{Said}
 use Rattle.tn_said.specs.declared.said.Said.TheVariants.{ReadFault, NoMemory, Fault}
-use Rattle.tn_run.specs.declared.command.Command.{Command}
-use Rattle.tn_run.specs.declared.command.Command.TheVariants.{Check, Firms, Judge, Range, Replay, Session, Solve, Support, Test}
+use Rattle.tn_file.specs.declared.command.Command.{Command}
+use Rattle.tn_file.specs.declared.command.Command.TheVariants.{Check, Firms, Judge, Range, Replay, Session, Solve, Support, Test}
 use Rattle.tn_run.specs.Answer.{FindsTooLong, JudgesExtra}
-use Rattle.tn_run.specs.Words.{need_of}
 
 -- whether the headline speaks of a command
 abbrev pub is_headlined : Command → Bool
@@ -35,13 +34,13 @@ IsPromised command doc said = ⊥
 -- the bytes stand for a document, of which the answer is what is promised
 pub record KeepsPromise (command : Command) (bytes : List ℕ) (said : Said) : Type 0 where
   pub doc : DocumentData
-  pub reads : reading_of (need_of command) bytes ≡ Ok doc
+  pub reads : reading_of command bytes ≡ Ok doc
   pub promised : IsPromised command doc said
 
 -- the answer is the first fault of the bytes
 pub record ShowsFault (command : Command) (bytes : List ℕ) (said : Said) : Type 0 where
   pub stop : Stop
-  pub reads : reading_of (need_of command) bytes ≡ Err stop
+  pub reads : reading_of command bytes ≡ Err stop
   pub said_is : said ≡ Fault stop.fault
 
 -- a source was taken to its end, and its bytes have that answer

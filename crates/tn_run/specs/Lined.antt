@@ -11,7 +11,7 @@ use Rattle.tn_answer.specs.declared.layout.Layout.TheVariants.{Object}
 use Rattle.tn_io.specs.Counts.{Rose}
 use Rattle.tn_io.specs.Lines.{TakesLines, TakesPart}
 use Rattle.tn_io.specs.Sink.{Grows}
-use Rattle.tn_run.specs.declared.command.Command.{Command}
+use Rattle.tn_file.specs.declared.command.Command.{Command}
 use Rattle.tn_run.specs.Answer.{document_limit, too_long}
 use Rattle.tn_run.specs.Complete.{IsAnswerToAll}
 use Rattle.tn_run.specs.Headline.{KeepsPromise, ShowsFault, is_headlined}

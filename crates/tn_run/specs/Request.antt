@@ -8,7 +8,7 @@ use Rattle.tn_said.specs.declared.said.Page.{Page}
 use Rattle.tn_said.specs.declared.said.Page.TheVariants.{Help, Version, About}
 use Rattle.tn_said.specs.declared.said.Topic.{Topic}
 use Rattle.tn_said.specs.declared.said.Topic.TheVariants.{Check as CheckTopic, Firms as FirmsTopic, Test as TestTopic, Support as SupportTopic, Solve as SolveTopic, Range as RangeTopic, Session as SessionTopic, Judge as JudgeTopic, Replay as ReplayTopic, Drill as DrillTopic, Cases as CasesTopic}
-use Rattle.tn_run.specs.declared.command.Command.{Command}
+use Rattle.tn_file.specs.declared.command.Command.{Command}
 use Rattle.tn_run.specs.declared.request.Request.{Request}
 use Rattle.tn_run.specs.declared.request.Request.TheVariants.{Usage, Document, Lines, Drill, Cases, Page as PageIs}
 use Rattle.tn_run.specs.Words.{number_within, word_command, word_layout}

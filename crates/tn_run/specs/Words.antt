@@ -1,4 +1,4 @@
--- Which word is a command, how its answer may be written, what a command reads, and which word is a number.
+-- Which word is a command, how its answer may be written, and which word is a number.
 use Rattle.std.specs.Prelude.{ℕ, List, length, codes, Bool, not, ◌==◌, ◌&&◌, ◌||◌, nat_le, get_or, Option, Some, None, if◌then◌else◌}
 use Rattle.std.specs.List.{list_all}
 use Rattle.std.specs.Char.{is_ascii_digit}
@@ -6,10 +6,8 @@ use Rattle.std.specs.Str.{bytes_eq}
 use Rattle.std.specs.Str.Parse.{digits_value}
 use Rattle.tn_answer.specs.declared.layout.Layout.{Layout}
 use Rattle.tn_answer.specs.declared.layout.Layout.TheVariants.{Object, Rows, WideRows}
-use Rattle.tn_file.specs.declared.need.Need.{Need}
-use Rattle.tn_file.specs.declared.need.Need.TheVariants.{Market, Raw, Arrangement, RawArrangement, On, Outcome, Edits, Claim}
-use Rattle.tn_run.specs.declared.command.Command.{Command}
-use Rattle.tn_run.specs.declared.command.Command.TheVariants.{Check, Firms, Judge, Range, Replay, Session, Solve, Support, Test}
+use Rattle.tn_file.specs.declared.command.Command.{Command}
+use Rattle.tn_file.specs.declared.command.Command.TheVariants.{Check, Firms, Judge, Range, Replay, Session, Solve, Support, Test}
 
 -- the command that reads a document and is one word
 abbrev pub word_command : List ℕ → Option Command
@@ -42,17 +40,6 @@ case_command text = if bytes_eq text (codes "solve --csv") then Some Solve else 
 
 abbrev pub case_layout : List ℕ → Layout
 case_layout text = if bytes_eq text (codes "solve --csv") then Rows else Object
-
-abbrev pub need_of : Command → Need
-need_of Check = Arrangement
-need_of Firms = RawArrangement
-need_of Judge = Outcome
-need_of Range = Market
-need_of Replay = Claim
-need_of Session = Edits
-need_of Solve = Market
-need_of Support = On
-need_of Test = Raw
 
 -- a number's text: digits, and no zero before others
 abbrev pub is_numeral : List ℕ → Bool

@@ -1,34 +1,11 @@
-//! The commands that read a document, and their words.
+//! The words of the commands that read a document.
 
 ghost use Rattle.std.specs.Prelude.{◌≡◌};
-ghost use Rattle.tn_run.specs.Words.{case_command, case_layout, need_of, rows_layout, word_command, word_layout};
+ghost use Rattle.tn_run.specs.Words.{case_command, case_layout, rows_layout, word_command, word_layout};
 
 use tn_answer::Layout;
-use tn_file::Need;
+use tn_file::Command;
 use tn_read_shapes::value_of_word;
-
-/// What the program is asked to do with a document.
-#[derive(Clone, Copy)]
-pub enum Command {
-    /// To judge a document's arrangement.
-    Check,
-    /// To say what each firm has in a document's arrangement, and what it would rather have.
-    Firms,
-    /// To give the verdict on a document's outcome.
-    Judge,
-    /// To find how far each price of a document's network may move.
-    Range,
-    /// To decide a document's claim.
-    Replay,
-    /// To find an equilibrium after each of a document's edits.
-    Session,
-    /// To find an equilibrium of a document's network.
-    Solve,
-    /// To find prices for the trades of a document's arrangement that are on.
-    Support,
-    /// To test whether the firms of a document meet the exchange property.
-    Test,
-}
 
 /// The command that one word is, none where it is none.
 pub(crate) fn word_command(word: &str) -> Option<Command>
@@ -98,21 +75,5 @@ pub fn case_layout(text: &str) -> Layout
         Layout::Rows
     } else {
         Layout::Object
-    }
-}
-
-/// What a command reads.
-pub fn need_of(command: Command) -> Need
-    ensures { result ≡ need_of command }
-{
-    match command {
-        Command::Check => Need::Arrangement,
-        Command::Firms => Need::RawArrangement,
-        Command::Judge => Need::Outcome,
-        Command::Range | Command::Solve => Need::Market,
-        Command::Replay => Need::Claim,
-        Command::Session => Need::Edits,
-        Command::Support => Need::On,
-        Command::Test => Need::Raw,
     }
 }

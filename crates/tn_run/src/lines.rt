@@ -8,22 +8,21 @@ ghost use Rattle.tn_io.specs.Counts.{Rose};
 ghost use Rattle.tn_io.specs.Lines.{TakesLines, TakesPart};
 ghost use Rattle.tn_run.specs.Answer.{IsAnswerTo, KeepsRules};
 ghost use Rattle.tn_run.specs.Lined.{IsLineAnswer, IsLinedRun, with_status};
-ghost use Rattle.tn_run.specs.Words.{need_of};
 
 use crate::answer::{DOCUMENT_LIMIT, answer_bytes, too_long};
-use crate::command::Command;
 use crate::status::Status;
 use crate::top::{tell, write_line};
 use std::alloc::Global;
 use tn_answer::{Layout, Names, read_fault_text};
 use tn_base::OutOfMemory;
+use tn_file::Command;
 use tn_io::{LineReader, LineStop, ReadFailed, Sink, Source};
 use tn_said::Said;
 
 /// The answer of a command to the bytes of a line, or that memory ran out; with the names that were read.
 fn answer_line(alloc: Global, command: Command, line: &[u8]) -> (Said, Names)
     ensures answer { (result.0 ≡ Said.NoMemory)
-        ⊎ (IsAnswerTo command (reading_of (need_of command) line.now) result.1 result.0 × KeepsRules result.1 result.0) }
+        ⊎ (IsAnswerTo command (reading_of command line.now) result.1 result.0 × KeepsRules result.1 result.0) }
     ensures within { IsWithinClaims result.0 }
 {
     match answer_bytes(alloc, command, line) {

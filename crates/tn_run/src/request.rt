@@ -3,9 +3,10 @@
 ghost use Rattle.std.specs.Prelude.{◌≡◌, map, string_bytes, IfSome};
 ghost use Rattle.tn_run.specs.Request.{IsWithinBounds, asks_for_page, command_with, drill_request, layout_of, lines_command, page_about, page_request, pair_request, request_of, topic_of, word_page, word_request, words_page};
 
-use crate::command::{Command, word_command, word_layout};
+use crate::command::{word_command, word_layout};
 use crate::numbers::number_within;
 use tn_answer::Layout;
+use tn_file::Command;
 use tn_read_shapes::value_of_word;
 use tn_said::{Page, Topic};
 

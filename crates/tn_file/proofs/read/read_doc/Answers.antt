@@ -3,4 +3,4 @@ use Rattle.tn_file.proofs.DocumentLeads.{networks_from}
 use Rattle.tn_file.proofs.read.read_doc.Goals as goal
 
 pub returns-clause-network : goal.returns-clause-network
-returns-clause-network c = networks_from c.args.need c.args.bytes.now c.read_bytes.result c.read_bytes.ensures.exact
+returns-clause-network c = networks_from c.args.command c.args.bytes.now c.read_bytes.result c.read_bytes.ensures.exact

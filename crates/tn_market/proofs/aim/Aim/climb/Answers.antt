@@ -24,8 +24,8 @@ loop-found-preserved g c =
     let before : SFits w128 c.loop-found.found.value = search rules in
     let gain = simp to_z-of_z at c.if-next-found.false in
     let left = is_left values c.args.from c.loop-found.found c.step-next.result c.loop-found.invariant.valued
-        c.step-next.ensures.tried.no_worse
-        (lt_from_test c.step-next.result.value c.loop-found.found.value gain) c.loop-found.invariant.kept in
+    c.step-next.ensures.tried.no_worse
+    (lt_from_test c.step-next.result.value c.loop-found.found.value gain) c.loop-found.invariant.kept in
     record {
       valued = c.step-next.ensures.tried.no_worse.valued c.loop-found.invariant.valued;
       kept = λ value best. absurd (left value best);

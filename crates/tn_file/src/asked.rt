@@ -1,0 +1,35 @@
+//! What is asked about a network, with the part of the document that this speaks of.
+
+use tn_base::TradeSet;
+use tn_market::{Arrangement, Outcome};
+use tn_said::{Claim, Edits};
+
+/// What is asked about firms that meet exchange, by its command.
+#[derive(Drop)]
+pub enum Asked {
+    /// Whether the arrangement is an equilibrium.
+    Check(Arrangement<16>),
+    /// The verdict on the outcome.
+    Judge(Outcome),
+    /// How far each price may move.
+    Range,
+    /// Whether the claim is so.
+    Replay(Claim),
+    /// An equilibrium after each of the edits.
+    Session(Edits),
+    /// An equilibrium.
+    Solve,
+    /// Prices for the trades that are on.
+    Support(TradeSet<16>),
+}
+
+/// What is asked about firms as they are listed, by its command.
+#[derive(Drop)]
+pub enum RawAsked {
+    /// What each firm has in the arrangement.
+    Firms(Arrangement<16>),
+    /// Whether the claim is so, which is one on exchange or that there are no prices.
+    Replay(Claim),
+    /// Whether they meet exchange.
+    Test,
+}
