@@ -310,6 +310,16 @@ fn offer<C: Costs>(
     }
 }
 
+/// The label of a node, 0 for a node without one.
+fn label_of(labels: &[i128], v: u32) -> i128
+    ensures { result ≡ label_in labels.now v }
+{
+    match labels.get(v as usize) {
+        Some(label) => *label,
+        None => 0,
+    }
+}
+
 /// Finds, from each node, the walk to `end` of least cost, of these one with the fewest arcs, and of these that over
 /// the lowest nodes (Dijkstra 1959): a node's key is the cost of its walk and its label. Labels keep the arcs, so that
 /// a key is never below that of the node it goes on over, and nodes are settled in the order of their keys. Where a
@@ -318,7 +328,6 @@ fn offer<C: Costs>(
 pub(crate) fn search_kept<C: Costs>(
     costs: &C,
     end: u32,
-    base: i128,
     sought: Sought,
     labels: &[i128],
     waits: &mut [bool],
@@ -332,7 +341,6 @@ pub(crate) fn search_kept<C: Costs>(
     requires spaced { length row.old ≤ length places.old }
     requires few { C.node_count costs.now ≤ most_graph_nodes + 1 }
     requires inside { end < C.node_count costs.now }
-    requires based { base ≡ label_in labels.now end }
     requires labelled { (v : ℕ) → v < C.node_count costs.now → v ≢ end → v < length labels.now }
     requires near { AreNear (2 * most_label) labels.now }
     requires shut { flag_at waits.old end ≡ false }
@@ -345,6 +353,7 @@ pub(crate) fn search_kept<C: Costs>(
         (flag_at waits.new) }
 {
     let nodes = costs.nodes();
+    let base = label_of(labels, end);
     begin(costs, end, row);
     let mut queue = Queue {
         list,

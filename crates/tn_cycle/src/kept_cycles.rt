@@ -141,7 +141,6 @@ fn find_kept<C: Costs>(
     search_kept(
         costs,
         node,
-        base,
         Sought::Cycle(cap),
         labels,
         waits,
@@ -348,7 +347,6 @@ pub(crate) fn relabel_kept<C: Costs>(
     search_kept(
         &Sunk { costs, sink },
         sink,
-        0,
         Sought::Walks,
         labels,
         waits,

@@ -47,16 +47,5 @@ pub(crate) fn find_walks<C: Costs>(
 {
     waits.fill(true);
     waits[node as usize] = false;
-    let base = labels[node as usize];
-    search_kept(
-        costs,
-        node,
-        base,
-        Sought::Walks,
-        labels,
-        waits,
-        row,
-        path,
-        places,
-    );
+    search_kept(costs, node, Sought::Walks, labels, waits, row, path, places);
 }

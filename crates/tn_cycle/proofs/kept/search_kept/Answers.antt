@@ -232,8 +232,8 @@ near_all reach (label ∷ labels) near (suc v) =
 
 pub front_counts-requires-clause-base : goal.front_counts-requires-clause-base
 front_counts-requires-clause-base g c =
-    let fits : SFits w128 c.args.base = search rules in
-    simp to_z-of_z (subst (λ (z : ℤ). IsAtMost z (2 * most_label)) (sym c.requires.based)
+    let fits : SFits w128 c.label_of-base.result = search rules in
+    simp to_z-of_z (subst (λ (z : ℤ). IsAtMost z (2 * most_label)) (sym c.label_of-base.ensures)
     (near_all (2 * most_label) c.args.labels.now c.requires.near c.args.end))
 
 pub front_counts-requires-clause-last : goal.front_counts-requires-clause-last
@@ -321,14 +321,14 @@ returns-then-not-front_counts g c =
     let label = label_in c.args.labels.now in
     let cell = cell_at c.loop-settled.row in
     let waits = flag_at c.loop-settled.waits in
-    let fits : SFits w128 c.args.base = search rules in
+    let fits : SFits w128 c.label_of-base.result = search rules in
     let past = simp to_z-of_z at (c.front_counts.ensures.no c.if-not-front_counts.true) in
     record {
       settled = c.loop-settled.settled;
       fewer = omega (arith, c.loop-settled.invariant.fewer);
       known = c.loop-settled.invariant.known;
       past =
-          subst (λ (z : ℤ). AllArePast nodes z c.args.sought label cell (cell c.args.end) waits) c.requires.based
-          (past_listed nodes c.loop-settled.queue.count c.args.base c.args.sought label cell (cell c.args.end) waits
+          subst (λ (z : ℤ). AllArePast nodes z c.args.sought label cell (cell c.args.end) waits) c.label_of-base.ensures
+          (past_listed nodes c.loop-settled.queue.count c.label_of-base.result c.args.sought label cell (cell c.args.end) waits
           c.loop-settled.queue.list.now c.loop-settled.invariant.queued.listed past);
     }

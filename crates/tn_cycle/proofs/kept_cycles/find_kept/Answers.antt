@@ -1,5 +1,5 @@
 -- What shows the clauses of `find_kept` of `src/kept_cycles.rt`.
-use Rattle.std.proofs.Common.{◌≡◌, ◌≢◌, ◌<◌, ◌≤◌, ◌∙◌, ℕ, ℤ, ◌+ℤ◌, List, Option, false, length, refl, sym, ap, subst, arith, rules}
+use Rattle.std.proofs.Common.{◌≡◌, ◌≢◌, ◌<◌, ◌≤◌, ◌∙◌, ℕ, ℤ, ◌+ℤ◌, List, Option, false, length, sym, ap, subst, arith, rules}
 use Rattle.std.specs.Prelude.{take}
 use Rattle.std.proofs.lemmas.Int.{ints, to_z-of_z}
 use Rattle.std.proofs.lemmas.List.Elements.{All-weaker}
@@ -142,12 +142,6 @@ returns-clause-near g c reach all v inside =
     (limit_is nodes (length c.args.labels.now) c.args.node label new cell c.gain.result c.cost.result (cost_of found)
     c.requires.labels_sized gain c.cost.ensures raised)
     v (omega (arith, inside, c.raise.auto.labels, c.requires.labels_sized))
-
-pub search_kept-requires-clause-based : goal.search_kept-requires-clause-based
-search_kept-requires-clause-based g c =
-    let near = c.requires.near c.args.node (omega (arith, c.requires.inside, c.requires.labels_sized)) in
-    let fits : SFits w128 (label_in c.args.labels.now c.args.node) = omega (arith, ints, near.low, near.high) in
-    simp to_z-of_z refl
 
 pub search_kept-requires-clause-begins : goal.search_kept-requires-clause-begins
 search_kept-requires-clause-begins g c v u cost off _ is = c.requires.covers v u cost off is

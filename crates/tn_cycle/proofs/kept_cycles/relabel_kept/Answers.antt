@@ -1,7 +1,7 @@
 -- What shows the clauses of `relabel_kept` of `src/kept_cycles.rt`.
-use Rattle.std.proofs.Common.{◌≡◌, ◌≢◌, ◌∙◌, ℕ, ℤ, pos, List, Option, Some, Bool, true, false, set, sym, subst, arith, rules}
+use Rattle.std.proofs.Common.{◌≡◌, ◌≢◌, ◌∙◌, ℕ, ℤ, List, Option, Some, Bool, true, false, set, sym, subst, arith, rules}
 use Rattle.std.proofs.lemmas.Int.{to_z-of_z}
-use Rattle.std.proofs.lemmas.List.{get_or-set_other, get_or-set_same, get_or_past, length-set}
+use Rattle.std.proofs.lemmas.List.{get_or-set_other, get_or-set_same, length-set}
 use mir.Syntax.{w128}
 use mir.Val.{SFits}
 use Rattle.tn_cycle.specs.Answers.{IsLowestCost, label_in}
@@ -63,11 +63,6 @@ returns g c =
 pub search_kept-requires-clause-waits_sized : goal.search_kept-requires-clause-waits_sized
 search_kept-requires-clause-waits_sized g c =
     omega (arith, c.requires.waits_sized, length-set c.args.waits.now c.nodes-sink.result false)
-
-pub search_kept-requires-clause-based : goal.search_kept-requires-clause-based
-search_kept-requires-clause-based g c =
-    sym (get_or_past c.args.labels.now c.nodes-sink.result (pos 0)
-    (omega (arith, c.requires.labels_sized, c.nodes-sink.ensures)))
 
 pub search_kept-requires-clause-labelled : goal.search_kept-requires-clause-labelled
 search_kept-requires-clause-labelled g c v inside off =
