@@ -108,7 +108,7 @@ fn middlemen_meet_exchange(rt: HostRuntime) -> Result<(), Fail> {
 }
 
 /// A dealer who sells one item on at a cost of 2.
-fn dealer(alloc: Global) -> Result<FirmValue, Fail> {
+pub(crate) fn dealer(alloc: Global) -> Result<FirmValue, Fail> {
     let sides = vec![in alloc; Side::Buy, Side::Sell]?;
     let pairs = vec![in alloc;
         Pair {

@@ -21,6 +21,8 @@ mod exchange;
 #[cfg(test)]
 mod firm;
 #[cfg(test)]
+mod guess;
+#[cfg(test)]
 mod io;
 #[cfg(test)]
 mod laminar;
