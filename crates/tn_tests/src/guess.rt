@@ -8,7 +8,7 @@ use std::test::Fail;
 use tn_base::{Asked, Bundle, Side, Steps, TradeSet};
 use tn_commands::{decided, guess};
 use tn_drill::drill;
-use tn_file::{Content, Document, Need, read_doc};
+use tn_file::{Command, Content, Document, read_doc};
 use tn_firm::FirmValue;
 use tn_flow::Solver;
 use tn_guess::{Flow, Sketch};
@@ -145,12 +145,19 @@ const ALL_KINDS: &[u8] = b"{\"version\":2,\"firms\":[\
 
 /// Whether the guess at the market of a document agrees with the rounds.
 fn agrees_on(alloc: Global, bytes: &[u8]) -> Result<bool, Fail> {
-    let Ok(document) = read_doc(alloc, Need::Market, bytes) else {
+    let Ok(document) = read_doc(alloc, Command::Solve, bytes) else {
         return Ok(false);
     };
+    let agrees = agrees_in(alloc, &document);
+    drop(document);
+    agrees
+}
+
+/// The same of a document that was read.
+fn agrees_in(alloc: Global, document: &Document) -> Result<bool, Fail> {
     match &document.content {
-        Content::Market(market, _) => Ok(market.trades() <= 128 && agrees(alloc, market)?),
-        Content::Raw(_, _) => Ok(false),
+        Content::Market(market, _) if market.trades() <= 128 => agrees(alloc, market),
+        _ => Ok(false),
     }
 }
 
@@ -186,7 +193,17 @@ fn taken(alloc: Global, market: &Market<FirmValue>) -> Result<[bool; 6], Fail>
     ])
 }
 
-/// The same of the market of a document.
+/// The same of the market of a document, none where it has none.
+fn taken_on(alloc: Global, bytes: &[u8]) -> Result<Option<[bool; 6]>, Fail> {
+    let Ok(document) = read_doc(alloc, Command::Solve, bytes) else {
+        return Ok(None);
+    };
+    let taken = taken_of(alloc, &document);
+    drop(document);
+    taken
+}
+
+/// The same of a document that was read.
 fn taken_of(alloc: Global, document: &Document) -> Result<Option<[bool; 6]>, Fail> {
     match &document.content {
         Content::Market(market, _) if market.trades() <= 128 => Ok(Some(taken(alloc, market)?)),
@@ -196,12 +213,6 @@ fn taken_of(alloc: Global, document: &Document) -> Result<Option<[bool; 6]>, Fai
 
 #[test]
 fn wrong_guesses_are_let_go(rt: HostRuntime) -> Result<(), Fail> {
-    let Ok(document) = read_doc(rt.alloc(), Need::Market, STALLS) else {
-        assert!(rt; false);
-        return Ok(());
-    };
-    let taken = taken_of(rt.alloc(), &document);
-    drop(document);
-    assert!(rt; taken? == Some([true, false, false, true, false, false]));
+    assert!(rt; taken_on(rt.alloc(), STALLS)? == Some([true, false, false, true, false, false]));
     Ok(())
 }
