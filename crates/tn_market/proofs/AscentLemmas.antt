@@ -1,11 +1,11 @@
 -- Steepest ascent: the values that it compares, how far a step has looked, and that what it stops at is best.
-use Rattle.std.proofs.Common.{◌≡◌, ◌≢◌, ℕ, ◌+◌, ◌*◌, ◌^◌, ◌<◌, ◌≤◌, Bool, true, false, not, ◌==◌, ◌&&◌, if◌then◌else◌, List, Option, Some, None, option_map, refl, sym, ap, ◌∙◌, subst, arith, inl, inr, ◌⊎◌, ℤ, pos, ◌+ℤ◌, ◌*ℤ◌, ◌≤ℤ◌, ◌<ℤ◌, add-one, IsSome}
+use Rattle.std.proofs.Common.{◌≡◌, ◌≢◌, ℕ, ◌+◌, ◌*◌, ◌^◌, ◌<◌, ◌≤◌, Bool, true, false, not, ◌==◌, ◌&&◌, if◌then◌else◌, List, Option, Some, None, option_map, refl, sym, ap, ◌∙◌, subst, arith, inl, inr, ◌⊎◌, ℤ, pos, ◌+ℤ◌, ◌-ℤ◌, ◌*ℤ◌, ◌≤ℤ◌, ◌<ℤ◌, add-one, IsSome}
 use Rattle.std.proofs.lemmas.Int.{ints}
 use Rattle.std.proofs.lemmas.Bool.{cases_eq, eq-eqb, eqb-true, cases_lt, and_parts, false≢true, lt-ltb}
 use Rattle.std.proofs.lemmas.Option.{same_Some, none-some}
 use lib.Signed.{le_z}
 use mir.Syntax.{w128}
-use mir.Val.{of_z, to_z}
+use mir.Val.{SFits, of_z, to_z}
 use Rattle.tn_base.specs.Sets.{has, toggle, minus, sum_over, set_of}
 use Rattle.tn_base.specs.Arcs.{IsAtMost}
 use Rattle.tn_base.specs.Firm.{Firm, plus_sum, HasOwnBundles, MayAbstain, IsBest}
@@ -13,10 +13,11 @@ use Rattle.tn_base.specs.Exchange.{MeetsExchange}
 use Rattle.tn_base.proofs.SetLemmas.{has_above, has_from_minus-zero, minus-zero_from, has-zero, has-set_of, has-toggle_same, has-toggle_other, within_from, toggle_comm}
 use Rattle.tn_firm_laws.proofs.KeepLemmas.{meets-plus_sum, meets-among}
 use Rattle.tn_firm_laws.proofs.LocalLemmas.{local_to_global}
-use Rattle.tn_firm_laws.proofs.BoundLemmas.{times_small}
+use Rattle.tn_base.proofs.SumLemmas.{sum_over-toggle_in, sum_over-toggle_out}
+use Rattle.tn_firm_laws.proofs.BoundLemmas.{sum_over_small, times_small}
 use Rattle.tn_model.specs.Prices.{price_at}
 use Rattle.tn_market.specs.declared.bundle_value.BundleValue.{BundleValue}
-use Rattle.tn_market.specs.Ascent.{aimed, IsBesideBest, IsNearbyBest, IsValued, StaysAt, IsNoWorse, TriesOne, TriesOthers, TriesBeside, TriesNearby}
+use Rattle.tn_market.specs.Ascent.{aimed, IsAim, IsBesideBest, IsNearbyBest, IsValued, StaysAt, IsNoWorse, TriesOne, TriesOthers, TriesBeside, TriesNearby}
 use Rattle.tn_market.specs.Widths.{most_utility, most_worth, most_scale, most_own}
 
 -- ---- sizes
@@ -38,6 +39,47 @@ valued_is scale worth gain product small = omega (arith, ints, product.low, prod
 pub sum_over-next : (c : ℕ → ℤ) (k x : ℕ) → sum_over c (k + 1) x ≡ sum_over c k x +ℤ (if has x k then c k else pos 0)
 unfolding sum_over
 sum_over-next c k x = rw add-one refl
+
+-- ---- the gains
+
+-- the gain of a bundle is at most so much in size
+pub gain_small : (allowed : ℕ) (scale : ℤ) (gains : List ℤ) (limit : ℕ) (firm : Firm) (x : ℕ)
+    → IsAim allowed scale gains limit firm
+    → IsAtMost (sum_over (price_at gains) firm.count x) (most_own * (2 * most_utility))
+gain_small allowed scale gains limit firm x is =
+    let counted = is.counted in
+    let few = is.few in
+    let sum = sum_over_small (price_at gains) firm.count x (2 * most_utility) (λ k below.
+    is.small_gains k (pos 0) (omega (arith, below, counted))) in
+    let low = sum.low in
+    let high = sum.high in
+    record { low = omega (arith, ints, low, few); high = omega (arith, ints, high, few) }
+
+-- a position's gain less where it is moved out, and one more where it is moved in, in the range of the code's
+pub record IsToggledGain (gains : List ℤ) (n x k : ℕ) (z : ℤ) : Type 0 where
+  pub sum : z ≡ sum_over (price_at gains) n (toggle x k)
+  pub fits : SFits w128 z
+
+module _ (allowed : ℕ) (scale : ℤ) (gains : List ℤ) (limit : ℕ) (firm : Firm)
+    (is : IsAim allowed scale gains limit firm) (x k : ℕ) (gain : ℤ) (below : k < firm.count)
+    (gain_is : gain ≡ sum_over (price_at gains) firm.count x) where
+  in_range : (z : ℤ) → z ≡ sum_over (price_at gains) firm.count (toggle x k)
+      → IsToggledGain gains firm.count x k z
+  in_range z sum =
+      let small = gain_small allowed scale gains limit firm (toggle x k) is in
+      let low = small.low in
+      let high = small.high in
+      record { sum = sum; fits = omega (arith, ints, sum, low, high) }
+
+  pub gain_out : has x k ≡ true → IsToggledGain gains firm.count x k (gain -ℤ price_at gains k)
+  gain_out present =
+      let toggled = sum_over-toggle_out (price_at gains) firm.count x k below present in
+      in_range (gain -ℤ price_at gains k) (omega (arith, ints, toggled, gain_is))
+
+  pub gain_in : has x k ≡ false → IsToggledGain gains firm.count x k (gain +ℤ price_at gains k)
+  gain_in absent =
+      let toggled = sum_over-toggle_in (price_at gains) firm.count x k below absent in
+      in_range (gain +ℤ price_at gains k) (omega (arith, ints, toggled, gain_is))
 
 -- ---- the values
 

@@ -1,10 +1,11 @@
 -- The search for a best bundle: what it compares, and how far it has looked.
 use Rattle.std.specs.Prelude.{◌≡◌, ℕ, ◌+◌, ◌*◌, ◌^◌, ◌<◌, ◌≤◌, ℤ, pos, neg_ℤ, ◌+ℤ◌, ◌≤ℤ◌, List, length, All, Option, Some, true, if◌then◌else◌}
-use Rattle.tn_base.specs.Sets.{has, toggle}
+use Rattle.tn_base.specs.Sets.{has, sum_over, toggle}
 use Rattle.tn_base.specs.Arcs.{IsAtMost}
 use Rattle.tn_base.specs.Firm.{Firm, plus_sum, among, payments, IsBest}
 use Rattle.tn_base.specs.declared.side.Side.{Side}
 use Rattle.tn_base.specs.declared.side.Side.TheVariants.{Buy, Sell}
+use Rattle.tn_market.specs.declared.bundle_gain.BundleGain.{BundleGain}
 use Rattle.tn_market.specs.declared.bundle_value.BundleValue.{BundleValue}
 use Rattle.tn_model.specs.Prices.{price_at}
 use Rattle.tn_market.specs.Widths.{most_own, most_worth, most_scale, most_utility}
@@ -32,6 +33,10 @@ pub record IsBesideBest (value_of : ℕ → Option ℤ) (from i j : ℕ) (value 
 -- no possible bundle with one or two different positions below n toggled has more than the value
 abbrev pub IsNearbyBest : (ℕ → Option ℤ) → ℕ → ℕ → ℤ → Type 0
 IsNearbyBest value_of from n value = (i : ℕ) → i < n → IsBesideBest value_of from i i value
+
+-- the gain of a bundle is the sum of those of its positions below n
+abbrev pub IsGained : List ℤ → ℕ → BundleGain → Type 0
+IsGained gains n x = x.gain ≡ sum_over (price_at gains) n x.bundle
 
 -- a bundle is possible with its value
 abbrev pub IsValued : (ℕ → Option ℤ) → BundleValue → Type 0

@@ -4,12 +4,13 @@
 
 ghost use Rattle.std.specs.Prelude.{◌≡◌, ◌+◌, ◌*◌, ◌<◌, ◌≤◌, ◌↔◌, ℤ, ◌≤ℤ◌, ◌+ℤ◌, ◌*ℤ◌, pos, if◌then◌else◌, length, IfSome, IsTrue, Some, true, false};
 ghost use Rattle.tn_base.specs.Arcs.{IsAtMost};
-ghost use Rattle.tn_base.specs.Sets.{has, minus, size, sum_over};
+ghost use Rattle.tn_base.specs.Sets.{has, minus, size, sum_over, toggle};
 ghost use Rattle.tn_base.specs.Firm.{IsBest};
-ghost use Rattle.tn_market.specs.Ascent.{AsksFew, aimed, IsAim, IsValued, StaysAt, TriesOne, TriesOthers, TriesNearby};
+ghost use Rattle.tn_market.specs.Ascent.{AsksFew, aimed, IsAim, IsGained, IsValued, StaysAt, TriesOne, TriesOthers, TriesNearby};
 ghost use Rattle.tn_model.specs.Prices.{price_at};
 ghost use Rattle.tn_market.specs.Widths.{most_worth, most_scale, most_own, most_utility, most_aimed};
 
+use crate::bundle_gain::BundleGain;
 use crate::bundle_value::BundleValue;
 use crate::oracle::MOST_OWN;
 use crate::valuation::Valuation;
@@ -61,16 +62,40 @@ impl<V: Valuation> Aim<'_, V> {
         total
     }
 
-    /// The value of a bundle within the allowed positions by its worth, None where it is impossible.
-    fn value_by(&self, x: Bundle, worth: Option<i128>) -> Option<i128>
-        requires within { minus x self.now.allowed ≡ 0 }
-        requires worth { worth ≡ (V.firm self.now.firm.now).worth x }
-        ensures value { result
-            ≡ (aimed self.now.allowed self.now.scale self.now.gains.now (V.firm self.now.firm.now)).worth x }
+    /// The sum of the gains of a bundle's positions with position `k` toggled, by the sum without.
+    fn gain_toggled(&self, x: Bundle, k: u32, gain: i128) -> i128
+        requires position { k < (V.firm self.now.firm.now).count }
+        requires gain { gain ≡ sum_over (price_at self.now.gains.now) (V.firm self.now.firm.now).count x }
+        ensures { result ≡ sum_over (price_at self.now.gains.now) (V.firm self.now.firm.now).count (toggle x k) }
+    {
+        let own = self.gains[k as usize];
+        if x.has(k) { gain - own } else { gain + own }
+    }
+
+    /// A bundle with position `k` toggled, and its gain by that of the one without.
+    fn toggled(&self, x: &BundleGain, k: u32) -> BundleGain
+        requires position { k < (V.firm self.now.firm.now).count }
+        requires gain { IsGained self.now.gains.now (V.firm self.now.firm.now).count x.now }
+        ensures bundle { result.bundle ≡ toggle x.now.bundle k }
+        ensures gain { IsGained self.now.gains.now (V.firm self.now.firm.now).count result }
+    {
+        BundleGain {
+            bundle: x.bundle.toggle(k),
+            gain: self.gain_toggled(x.bundle, k, x.gain),
+        }
+    }
+
+    /// The value of a bundle within the allowed positions by its gain and its worth, None where it is impossible.
+    fn value_by(&self, x: &BundleGain, worth: Option<i128>) -> Option<i128>
+        requires within { minus x.now.bundle self.now.allowed ≡ 0 }
+        requires gain { IsGained self.now.gains.now (V.firm self.now.firm.now).count x.now }
+        requires worth { worth ≡ (V.firm self.now.firm.now).worth x.now.bundle }
+        ensures value { result ≡ (aimed self.now.allowed self.now.scale self.now.gains.now
+            (V.firm self.now.firm.now)).worth x.now.bundle }
         ensures small { IfSome result (λ value. IsAtMost value most_aimed) }
     {
         match worth {
-            Some(worth) => Some(valued(self.scale, worth, self.gain(x))),
+            Some(worth) => Some(valued(self.scale, worth, x.gain)),
             None => None,
         }
     }
@@ -86,20 +111,25 @@ impl<V: Valuation> Aim<'_, V> {
         if x.minus(self.allowed) != Bundle::empty() {
             return None;
         }
-        self.value_by(x, self.firm.value(x, steps))
+        let gained = BundleGain {
+            bundle: x,
+            gain: self.gain(x),
+        };
+        self.value_by(&gained, self.firm.value(x, steps))
     }
 
-    /// The better of a bundle found so far and another one within the allowed positions, by its worth: the other only
-    /// where it is possible and has more.
-    fn better(&self, best: BundleValue, other: Bundle, worth: Option<i128>) -> BundleValue
-        requires within { minus other self.now.allowed ≡ 0 }
-        requires worth { worth ≡ (V.firm self.now.firm.now).worth other }
+    /// The better of a bundle found so far and another one within the allowed positions, by its gain and its worth: the
+    /// other only where it is possible and has more.
+    fn better(&self, best: BundleValue, other: &BundleGain, worth: Option<i128>) -> BundleValue
+        requires within { minus other.now.bundle self.now.allowed ≡ 0 }
+        requires gain { IsGained self.now.gains.now (V.firm self.now.firm.now).count other.now }
+        requires worth { worth ≡ (V.firm self.now.firm.now).worth other.now.bundle }
         ensures { TriesOne (aimed self.now.allowed self.now.scale self.now.gains.now (V.firm self.now.firm.now)).worth
-            other best result }
+            other.now.bundle best result }
     {
         match self.value_by(other, worth) {
             Some(value) if value > best.value => BundleValue {
-                bundle: other,
+                bundle: other.bundle,
                 value,
             },
             _ => best,
@@ -111,25 +141,26 @@ impl<V: Valuation> Aim<'_, V> {
     fn best_with(
         &self,
         best: BundleValue,
-        x: Bundle,
+        x: &BundleGain,
         others: Bundle,
         worths: &mut [Option<i128>],
         steps: &mut Steps<V::Mark>,
     ) -> BundleValue
-        requires within { minus x self.now.allowed ≡ 0 }
+        requires within { minus x.now.bundle self.now.allowed ≡ 0 }
+        requires gain { IsGained self.now.gains.now (V.firm self.now.firm.now).count x.now }
         requires others { minus others self.now.allowed ≡ 0 }
         requires room { (V.firm self.now.firm.now).count ≤ length worths.old }
         ensures tried { TriesOthers (aimed self.now.allowed self.now.scale self.now.gains.now
-            (V.firm self.now.firm.now)).worth x others
+            (V.firm self.now.firm.now)).worth x.now.bundle others
             (V.firm self.now.firm.now).count best result }
         ensures room { length worths.new ≡ length worths.old }
         ensures asked { steps.new ≡ steps.old + size others }
     {
-        self.firm.row(x, others, worths, steps);
+        self.firm.row(x.bundle, others, worths, steps);
         let mut best = best;
         for k in 0..self.firm.trades() {
             if others.has(k) {
-                best = self.better(best, x.toggle(k), worths[k as usize]);
+                best = self.better(best, &self.toggled(x, k), worths[k as usize]);
             }
         }
         best
@@ -149,13 +180,17 @@ impl<V: Valuation> Aim<'_, V> {
         self.firm
             .row(from.bundle, self.allowed, &mut singles, steps);
         let mut pairs = [None; MOST_OWN];
+        let here = BundleGain {
+            bundle: from.bundle,
+            gain: self.gain(from.bundle),
+        };
         let mut best = *from;
         let mut earlier = Bundle::empty();
         for i in 0..self.firm.trades() {
             if self.allowed.has(i) {
-                let toggled = from.bundle.toggle(i);
-                best = self.better(best, toggled, singles[i as usize]);
-                best = self.best_with(best, toggled, earlier, &mut pairs, steps);
+                let toggled = self.toggled(&here, i);
+                best = self.better(best, &toggled, singles[i as usize]);
+                best = self.best_with(best, &toggled, earlier, &mut pairs, steps);
                 earlier = earlier.toggle(i);
             }
         }

@@ -4,6 +4,7 @@
 
 mod aim;
 mod ascent;
+mod bundle_gain;
 mod bundle_value;
 mod laws;
 mod levied;

@@ -25,13 +25,13 @@ loop-i-init g c =
 pub better-best-requires-clause-within : goal.better-best-requires-clause-within
 better-best-requires-clause-within g c =
     let allowed = c.args.self.now.allowed in
-    subst (λ (y : ℕ). minus y allowed ≡ 0) (sym c.toggle-toggled.ensures)
+    subst (λ (y : ℕ). minus y allowed ≡ 0) (sym c.toggled-toggled.ensures.bundle)
     (toggled_within c.args.from.now.bundle allowed c.loop-i.i c.requires.within (sym c.has.ensures ∙ c.if-has.true))
 
 pub best_with-best-requires-clause-within : goal.best_with-best-requires-clause-within
 best_with-best-requires-clause-within g c =
     let allowed = c.args.self.now.allowed in
-    subst (λ (y : ℕ). minus y allowed ≡ 0) (sym c.toggle-toggled.ensures)
+    subst (λ (y : ℕ). minus y allowed ≡ 0) (sym c.toggled-toggled.ensures.bundle)
     (toggled_within c.args.from.now.bundle allowed c.loop-i.i c.requires.within (sym c.has.ensures ∙ c.if-has.true))
 
 pub best_with-best-requires-clause-others : goal.best_with-best-requires-clause-others
@@ -49,10 +49,10 @@ loop-i-preserved g c =
     let inside : c.loop-i.i < firm.count = omega (arith, count, below) in
     elim c.if-has.branch [
       | then-has w ↦
-          let one = subst (λ (y : ℕ). TriesOne values y c.loop-i.best w.better-best.result) w.toggle-toggled.ensures
+          let one = subst (λ (y : ℕ). TriesOne values y c.loop-i.best w.better-best.result) w.toggled-toggled.ensures.bundle
           w.better-best.ensures in
           let pairs = subst (λ (y : ℕ). TriesOthers values y c.loop-i.earlier firm.count w.better-best.result
-          w.best_with-best.result) w.toggle-toggled.ensures w.best_with-best.ensures.tried in
+          w.best_with-best.result) w.toggled-toggled.ensures.bundle w.best_with-best.ensures.tried in
           let beside =
           beside_tried aim.allowed aim.scale aim.gains.now firm from.bundle c.loop-i.i c.loop-i.earlier firm.count
           c.loop-i.best w.better-best.result w.best_with-best.result
