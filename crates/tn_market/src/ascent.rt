@@ -1,11 +1,11 @@
 //! The search for a best bundle among those that have all wanted positions and no forbidden one, and that from a bundle
 //! at hand.
 
-ghost use Rattle.std.specs.Prelude.{◌≡◌, ◌+◌, ◌^◌, ◌*◌, ◌<◌, ◌≤◌, ◌↔◌, ℤ, pos, ◌+ℤ◌, ◌≤ℤ◌, if◌then◌else◌, length, All, IsTrue, true};
+ghost use Rattle.std.specs.Prelude.{◌≡◌, ◌+◌, ◌^◌, ◌*◌, ◌<◌, ◌≤◌, ◌↔◌, ℤ, pos, ◌+ℤ◌, ◌≤ℤ◌, if◌then◌else◌, length, is_some, All, IsTrue, true};
 ghost use Rattle.tn_base.specs.Arcs.{IsAtMost};
 ghost use Rattle.tn_base.specs.Sets.{meet, set_of, union};
 ghost use Rattle.tn_base.specs.Firm.{IsBest, utility};
-ghost use Rattle.tn_market.specs.Ascent.{AreGains, payment_of};
+ghost use Rattle.tn_market.specs.Ascent.{AreGains, aimed, payment_of};
 ghost use Rattle.tn_market.specs.Best.{GivesBest, IsBestBetween};
 ghost use Rattle.tn_market.specs.BestFrom.{IsBestFrom};
 ghost use Rattle.tn_model.specs.Prices.{price_at};
@@ -60,14 +60,28 @@ pub fn gains<V: Valuation>(firm: &V, need: Bundle, prices: &[i128]) -> [i128; MO
     gains
 }
 
+/// The bundle of all allowed positions where it is possible, and otherwise another one. It asks for one worth at most.
+fn whole_or<V: Valuation>(aim: &Aim<'_, V>, other: Bundle, steps: &mut Steps<V::Mark>) -> Bundle
+    ensures start { result ≡ (if is_some ((aimed aim.now.allowed aim.now.scale aim.now.gains.now
+        (V.firm aim.now.firm.now)).worth aim.now.allowed) then aim.now.allowed else other) }
+    ensures asked { steps.new ≤ steps.old + 1 }
+{
+    if aim.value(aim.allowed, steps).is_some() {
+        aim.allowed
+    } else {
+        other
+    }
+}
+
 /// A best bundle among the possible ones that contain `need` and have beside it only positions of `free`, with its
 /// utility; None exactly where no such bundle is possible. Each worth that it asks counts on `steps`. It takes no
 /// memory.
 ///
-/// The search goes up from the empty bundle by the best change of one or two positions, until none gains (steepest
-/// ascent: Murota, Discrete Convex Analysis, 2003). Positions in `need` and in `free` are own and differ. Prices are at
-/// most 10^20 in size and the scale is 1 to 100,000,000; the firm has at most 60 own trades and no worth above 1.24 *
-/// 10^11. There is a price for each position.
+/// The search goes up by the best change of one or two positions, until none gains (steepest ascent: Murota, Discrete
+/// Convex Analysis, 2003), from all of `need` and `free`, or where these together are impossible from `free` alone, or
+/// the empty bundle. Positions in `need` and in `free` are own and differ. Prices are at most 10^20 in size and the
+/// scale is 1 to 100,000,000; the firm has at most 60 own trades and no worth above 1.24 * 10^11. There is a price for
+/// each position.
 pub fn best_by_ascent<V: Valuation>(
     firm: &V,
     need: Bundle,
@@ -93,7 +107,8 @@ pub fn best_by_ascent<V: Valuation>(
         scale,
         gains: &gains,
     };
-    let found = aim.climb(Bundle::empty(), steps);
+    let start = whole_or(&aim, free, steps);
+    let found = aim.climb(start, steps);
     if need.minus(found.bundle) != Bundle::empty() {
         return None;
     }
@@ -104,8 +119,8 @@ pub fn best_by_ascent<V: Valuation>(
 /// A best bundle among the possible ones within `allowed`, with its utility, found from a bundle at hand: that one
 /// wherever it is best. Each worth that it asks counts on `steps`. It takes no memory.
 ///
-/// The search goes up from `from` as that of `best_by_ascent` does from the empty bundle, and from that one where
-/// `from` is impossible or not within `allowed`. So where `from` is best it asks for at most a worth for each two places,
+/// The search goes up from `from` as that of `best_by_ascent` does, and from the empty bundle where `from` is impossible
+/// or not within `allowed`. So where `from` is best it asks for at most a worth for each two places,
 /// where none is a place too. The positions in `allowed` are own; prices, scale and firm are within the limits of
 /// `best_by_ascent`.
 pub fn best_by_ascent_from<V: Valuation>(

@@ -59,7 +59,7 @@ returns-then-ne g c =
     best_none (g.V.Valuation.firm c.args.firm.now) (g.V.Valuation.limit c.args.firm.now) c.args.need c.args.free
     c.args.scale c.args.prices.now c.gains-gains.result (question g at) c.climb-found.result.bundle
     c.climb-found.result.value (best g at)
-    (λ e. not_emptied c.minus.result c.empty-2.result c.ne.result c.ne.ensures c.if-ne.true c.empty-2.ensures
+    (λ e. not_emptied c.minus.result c.empty.result c.ne.result c.ne.ensures c.if-ne.true c.empty.ensures
     (c.minus.ensures ∙ e))
 
 pub overflow_sub-result : goal.overflow_sub-result
@@ -73,8 +73,8 @@ returns g c =
     let firm = g.V.Valuation.firm c.args.firm.now in
     let size = size_at firm.count c.args.need (need_within firm c.args.need c.args.free c.requires.own) in
     let has_all =
-    sym c.minus.ensures ∙ emptied c.minus.result c.empty-2.result c.ne.result c.ne.ensures c.if-ne.false
-    c.empty-2.ensures in
+    sym c.minus.ensures ∙ emptied c.minus.result c.empty.result c.ne.result c.ne.ensures c.if-ne.false
+    c.empty.ensures in
     let some = best_some firm (g.V.Valuation.limit c.args.firm.now) c.args.need c.args.free c.args.scale
     c.args.prices.now c.gains-gains.result (question g at) c.climb-found.result.bundle c.climb-found.result.value
     (best g at) has_all in
