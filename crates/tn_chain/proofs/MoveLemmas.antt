@@ -1,16 +1,17 @@
 -- The arcs of the reduced graph, read from the ends of trades.
-use Rattle.std.proofs.Common.{◌≡◌, ℕ, ◌*◌, ◌^◌, ◌<◌, ◌≤◌, Bool, true, false, not, ◌==◌, ◌&&◌, if◌then◌else◌, List, length, map, slice_get, Option, Some, None, option_map, refl, suc, [], ◌∷◌, sym, ap, ap₂, ◌∙◌, subst, arith, inl, inr, ℤ, ◌+ℤ◌, ◌*ℤ◌}
+use Rattle.std.proofs.Common.{◌≡◌, ◌≢◌, ℕ, ◌*◌, ◌^◌, ◌<◌, ◌≤◌, Bool, true, false, not, ◌==◌, ◌&&◌, if◌then◌else◌, List, length, map, slice_get, Option, Some, None, option_map, refl, suc, [], ◌∷◌, sym, ap, ap₂, ◌∙◌, subst, arith, inl, inr, ℤ, ◌+ℤ◌, ◌*ℤ◌, neg_ℤ}
 use Rattle.std.specs.Prelude.{option_and_then, All}
 use Rattle.std.proofs.lemmas.Int.{ints}
 use Rattle.std.proofs.lemmas.Nat.{pow_pos, mul-le}
-use Rattle.std.proofs.lemmas.Bool.{cases_eq, le-leb, eqb-true, true≢false}
+use Rattle.std.proofs.lemmas.Bool.{le-leb, eqb-true}
 use Rattle.std.proofs.lemmas.Option.{same_Some, slice_get-map}
 use Rattle.tn_base.specs.Widths.{most_cost}
 use Rattle.tn_chain.specs.Limits.{most_reduced_cost, most_reduced_worth}
 use Rattle.tn_base.specs.Arcs.{IsAtMost, AreSmall}
-use Rattle.tn_base.specs.Sets.{has, toggle, meet, sum_over}
+use Rattle.tn_base.specs.Options.{both}
+use Rattle.tn_base.specs.Sets.{has, toggle, meet, minus, sum_over}
 use Rattle.tn_base.specs.Firm.{Firm, plus_sum, payments}
-use Rattle.tn_base.proofs.SetLemmas.{same_set, has-zero, has-meet, has-toggle_other, toggle_within}
+use Rattle.tn_base.proofs.SetLemmas.{same_set, has-zero, has-meet, has-minus, toggle_within}
 use Rattle.tn_firm_laws.proofs.KeepLemmas.{option_map-some}
 use Rattle.tn_firm_laws.proofs.BoundLemmas.{times_small, sum_over_small}
 use Rattle.tn_model.specs.declared.ends.Ends.{Ends}
@@ -23,13 +24,11 @@ use Rattle.tn_market.specs.Traded.{Traded}
 use Rattle.tn_market.specs.Limits.{IsOutcomeOf, IsWithinLimits}
 use Rattle.tn_market.specs.Equilibrium.{prices_at}
 use Rattle.tn_market.specs.Graph.{raised, raised_by, lowered_by, loss, loss_at, arc_between, exchange_arc}
-use Rattle.tn_market.specs.Signed.{is_signed, signed_price, signed_bundle}
+use Rattle.tn_market.specs.Signed.{signed_price, signed_bundle}
 use Rattle.tn_market.specs.Reduced.{reduced, reduced_firms, reduced_arc}
 use Rattle.tn_market.proofs.GraphLemmas.{buyer_end, seller_end, IsEnd}
 use Rattle.tn_market.proofs.AskLemmas.{payment_small}
 use Rattle.tn_network_laws.proofs.SupportLemmas.{arcs_small}
-use Rattle.tn_outcome_laws.proofs.SignedLemmas.{has-signed_bundle}
-use Rattle.tn_outcome_laws.proofs.ArcLemmas.{reduced_arcs_are_unsigned}
 use Rattle.tn_outcome_laws.proofs.AddingLemmas.{adding_one}
 use Rattle.tn_outcome_laws.proofs.CompletionLemmas.{no_part, reduced_from_firm, reduced_network}
 use Rattle.tn_chain.specs.Moves.{move_between, arc_move}
@@ -75,132 +74,99 @@ arc_of_move firms trades u v from to =
         by_test true = lost_at firms trades up.buyer (λ x. toggle (toggle x up.at_buyer) down.at_seller)
         by_test false = refl
 
--- ---- signed trades have no arcs
+-- ---- a bundle with signed trades has no reduced worth
 
-pub signed_from : (firms : List Firm) (trades : List Ends) (over : ℤ) (contracts : List Contract)
-    → IsNetwork firms trades → (u v : ℕ) → u < length trades → is_signed contracts u ≡ true
-    → reduced_arc firms trades over contracts u v ≡ None
-signed_from firms trades over contracts network u v below signed =
-    by_case (reduced_arc firms trades over contracts u v) refl
+pub worth_none : (trades : List Ends) (over : ℤ) (contracts : List Contract) (f : ℕ) (firm : Firm) (x : ℕ)
+    → meet x (signed_bundle trades contracts f firm) ≢ 0 → (reduced trades over contracts f firm).worth x ≡ None
+worth_none trades over contracts f firm x signed = by_case ((reduced trades over contracts f firm).worth x) refl
   where
-    by_case : (o : Option ℤ) → reduced_arc firms trades over contracts u v ≡ o → o ≡ None
-    by_case None e = refl
-    by_case (Some cost) e =
-        absurd (true≢false (sym signed
-        ∙ (reduced_arcs_are_unsigned firms trades over contracts u v cost network e).0.unsigned below))
+    given : ℕ
+    given = signed_bundle trades contracts f firm
 
-pub signed_to : (firms : List Firm) (trades : List Ends) (over : ℤ) (contracts : List Contract) → IsNetwork firms trades
-    → (u v : ℕ) → v < length trades → is_signed contracts v ≡ true
-    → reduced_arc firms trades over contracts u v ≡ None
-signed_to firms trades over contracts network u v below signed =
-    by_case (reduced_arc firms trades over contracts u v) refl
+    none : (y g : Bool) → ((y && not g) && g) ≡ false
+    none true true = refl
+    none true false = refl
+    none false g = refl
+
+    apart : (y : ℕ) → meet (minus y given) given ≡ 0
+    apart y = same_set (meet (minus y given) given) 0 (λ k. has-meet (minus y given) given k
+        ∙ ap (λ (b : Bool). b && has given k) (has-minus y given k) ∙ none (has y k) (has given k)
+        ∙ sym (has-zero k))
+
+    by_case : (o : Option ℤ) → (reduced trades over contracts f firm).worth x ≡ o
+        → (reduced trades over contracts f firm).worth x ≡ None
+    by_case None is = is
+    by_case (Some a) is =
+        let found = adding_one given (plus_sum over (payments firm.buys (prices_at trades (signed_price contracts) f))
+        firm) x a is in
+        absurd (signed (ap (λ (z : ℕ). meet z given) (sym found.1) ∙ apart found.0))
+
+pub loss_none : (firm : Firm) (x y : ℕ) → firm.worth y ≡ None → loss firm x y ≡ None
+loss_none firm x y none = ap (λ (o : Option ℤ). both (firm.worth x) (option_map neg_ℤ o)) none ∙ by_case (firm.worth x)
   where
-    by_case : (o : Option ℤ) → reduced_arc firms trades over contracts u v ≡ o → o ≡ None
-    by_case None e = refl
-    by_case (Some cost) e =
-        absurd (true≢false (sym signed
-        ∙ (reduced_arcs_are_unsigned firms trades over contracts u v cost network e).1.unsigned below))
+    by_case : (o : Option ℤ) → both o None ≡ None
+    by_case None = refl
+    by_case (Some a) = refl
 
 -- ---- the bundle of a move
 
--- a firm with a bundle of its own unsigned positions
-pub record IsMove (firms : List Firm) (trades : List Ends) (contracts : List Contract) (f x : ℕ) : Type 0 where
+-- a firm with a bundle of its own positions
+pub record IsMove (firms : List Firm) (f x : ℕ) : Type 0 where
   pub firm : Firm
   pub is : slice_get firms f ≡ Some firm
   pub within : x < 2 ^ firm.count
-  pub unsigned : meet x (signed_bundle trades contracts f firm) ≡ 0
 
-empty_move : (firms : List Firm) (trades : List Ends) (contracts : List Contract) (f : ℕ) (firm : Firm)
-    → slice_get firms f ≡ Some firm → IsMove firms trades contracts f 0
-empty_move firms trades contracts f firm is = record {
-  firm = firm;
-  is = is;
-  within = pow_pos firm.count;
-  unsigned = same_set (meet 0 (signed_bundle trades contracts f firm)) 0
-      (λ k. has-meet 0 (signed_bundle trades contracts f firm) k
-      ∙ ap (λ (b : Bool). b && has (signed_bundle trades contracts f firm) k) (has-zero k) ∙ sym (has-zero k));
-}
+empty_move : (firms : List Firm) (f : ℕ) (firm : Firm) → slice_get firms f ≡ Some firm → IsMove firms f 0
+empty_move firms f firm is = record { firm = firm; is = is; within = pow_pos firm.count }
 
-with_end : (firms : List Firm) (trades : List Ends) → IsNetwork firms trades
-    → (contracts : List Contract) (t f k : ℕ) (bought : Bool) → IsEnd firms trades t f k bought
-    → is_signed contracts t ≡ false
-    → (x : ℕ) → IsMove firms trades contracts f x → IsMove firms trades contracts f (toggle x k)
-with_end firms trades network contracts t f k bought end unsigned x moved =
+with_end : (firms : List Firm) (trades : List Ends) (t f k : ℕ) (bought : Bool) → IsEnd firms trades t f k bought
+    → (x : ℕ) → IsMove firms f x → IsMove firms f (toggle x k)
+with_end firms trades t f k bought end x moved =
     let same = same_Some _ _ (sym moved.is ∙ end.is) in
     let inside : k < moved.firm.count = subst (λ (z : Firm). k < z.count) (sym same) end.inside in
-    record {
-      firm = moved.firm;
-      is = moved.is;
-      within = toggle_within x k moved.firm.count moved.within inside;
-      unsigned = same_set (meet (toggle x k) (signed_bundle trades contracts f moved.firm)) 0
-          (λ i. elim (cases_eq i k) [
-            | inl e ↦
-                let away : has (signed_bundle trades contracts f moved.firm) k ≡ false =
-                has-signed_bundle firms trades network contracts f k moved.firm moved.is inside
-                ∙ ap (is_signed contracts) end.owns ∙ unsigned in
-                has-meet (toggle x k) (signed_bundle trades contracts f moved.firm) i
-                ∙ ap (λ (b : Bool). has (toggle x k) i && b) (ap (has (signed_bundle trades contracts f moved.firm)) e
-                ∙ away) ∙ nothing (has (toggle x k) i) ∙ sym (has-zero i)
-            | inr d ↦
-                has-meet (toggle x k) (signed_bundle trades contracts f moved.firm) i
-                ∙ ap (λ (b : Bool). b && has (signed_bundle trades contracts f moved.firm) i) (has-toggle_other x k i d)
-                ∙ sym (has-meet x (signed_bundle trades contracts f moved.firm) i)
-                ∙ ap (λ (z : ℕ). has z i) moved.unsigned
-          ]);
-    }
-  where
-    nothing : (b : Bool) → (b && false) ≡ false
-    nothing true = refl
-    nothing false = refl
+    record { firm = moved.firm; is = moved.is; within = toggle_within x k moved.firm.count moved.within inside }
 
--- a move is one of a firm of the network, on unsigned trades where its ends are
-pub move_is : (firms : List Firm) (trades : List Ends) → IsNetwork firms trades
-    → (contracts : List Contract) (u v : ℕ) (m : ℕ × ℕ) → arc_move trades u v ≡ Some m
-    → is_signed contracts u ≡ false → is_signed contracts v ≡ false → IsMove firms trades contracts m.0 m.1
-move_is firms trades network contracts u v m is u_free v_free =
-    by_case (slice_get trades u) (slice_get trades v) refl refl is
+-- a move is one of a firm of the network
+pub move_is : (firms : List Firm) (trades : List Ends) → IsNetwork firms trades → (u v : ℕ) (m : ℕ × ℕ)
+    → arc_move trades u v ≡ Some m → IsMove firms m.0 m.1
+move_is firms trades network u v m is = by_case (slice_get trades u) (slice_get trades v) refl refl is
   where
-    whole : (f x : ℕ) → IsMove firms trades contracts f x → ◌≡◌ {A = Option (ℕ × ℕ)} (Some (f, x)) (Some m)
-        → IsMove firms trades contracts m.0 m.1
-    whole f x moved e = subst (λ (p : ℕ × ℕ). IsMove firms trades contracts p.0 p.1) (same_pair f x e) moved
+    whole : (f x : ℕ) → IsMove firms f x → ◌≡◌ {A = Option (ℕ × ℕ)} (Some (f, x)) (Some m) → IsMove firms m.0 m.1
+    whole f x moved e = subst (λ (p : ℕ × ℕ). IsMove firms p.0 p.1) (same_pair f x e) moved
       where
         same_pair : (f x : ℕ) → ◌≡◌ {A = Option (ℕ × ℕ)} (Some (f, x)) (Some m) → ◌≡◌ {A = ℕ × ℕ} (f, x) m
         same_pair f x e = cc e
 
-    buys : (up : Ends) → slice_get trades u ≡ Some up → IsMove firms trades contracts up.buyer (toggle 0 up.at_buyer)
+    buys : (up : Ends) → slice_get trades u ≡ Some up → IsMove firms up.buyer (toggle 0 up.at_buyer)
     buys up there =
         let end = buyer_end firms trades network u up there in
-        with_end firms trades network contracts u up.buyer up.at_buyer true end u_free 0
-        (empty_move firms trades contracts up.buyer end.firm end.is)
+        with_end firms trades u up.buyer up.at_buyer true end 0 (empty_move firms up.buyer end.firm end.is)
 
-    sells : (down : Ends) → slice_get trades v ≡ Some down → (x : ℕ) → IsMove firms trades contracts down.seller x
-        → IsMove firms trades contracts down.seller (toggle x down.at_seller)
-    sells down there x moved =
-        with_end firms trades network contracts v down.seller down.at_seller false
-        (seller_end firms trades network v down there) v_free x moved
+    sells : (down : Ends) → slice_get trades v ≡ Some down → (x : ℕ) → IsMove firms down.seller x
+        → IsMove firms down.seller (toggle x down.at_seller)
+    sells down there x moved = with_end firms trades v down.seller down.at_seller false
+        (seller_end firms trades network v down there) x moved
 
     by_case : (o p : Option Ends) → slice_get trades u ≡ o → slice_get trades v ≡ p → move_between o p ≡ Some m
-        → IsMove firms trades contracts m.0 m.1
+        → IsMove firms m.0 m.1
     by_case None None a b e = absurd (cc e)
     by_case None (Some down) a b e =
         let end = seller_end firms trades network v down b in
-        whole down.seller (toggle 0 down.at_seller) (sells down b 0
-        (empty_move firms trades contracts down.seller end.firm end.is)) e
+        whole down.seller (toggle 0 down.at_seller) (sells down b 0 (empty_move firms down.seller end.firm end.is)) e
     by_case (Some up) None a b e = whole up.buyer (toggle 0 up.at_buyer) (buys up a) e
     by_case (Some up) (Some down) a b e = by_test (up.buyer == down.seller) refl e
       where
         by_test : (t : Bool) → (up.buyer == down.seller) ≡ t
             → ◌≡◌ {A = Option (ℕ × ℕ)} (if t then Some (up.buyer, toggle (toggle 0 up.at_buyer) down.at_seller)
             else None) (Some m)
-            → IsMove firms trades contracts m.0 m.1
+            → IsMove firms m.0 m.1
         by_test false test e = absurd (cc e)
         by_test true test e =
             let same = eqb-true up.buyer down.seller test in
             whole up.buyer (toggle (toggle 0 up.at_buyer) down.at_seller)
-            (subst (λ (f : ℕ). IsMove firms trades contracts f (toggle (toggle 0 up.at_buyer) down.at_seller))
-            (sym same)
+            (subst (λ (f : ℕ). IsMove firms f (toggle (toggle 0 up.at_buyer) down.at_seller)) (sym same)
             (sells down b (toggle 0 up.at_buyer)
-            (subst (λ (f : ℕ). IsMove firms trades contracts f (toggle 0 up.at_buyer)) same (buys up a)))) e
+            (subst (λ (f : ℕ). IsMove firms f (toggle 0 up.at_buyer)) same (buys up a)))) e
 
 -- ---- sizes
 

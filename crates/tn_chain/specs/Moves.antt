@@ -1,10 +1,7 @@
 -- The arcs of the exchange graph where no trade is on.
-use Rattle.std.specs.Prelude.{◌≡◌, ℕ, ◌<◌, ℤ, ◌⊎◌, List, length, slice_get, slice_index_or, ◌==◌, if◌then◌else◌, Option, Some, None}
-use Rattle.tn_base.specs.Firm.{Firm}
+use Rattle.std.specs.Prelude.{◌≡◌, ℕ, ◌<◌, ℤ, List, slice_get, ◌==◌, if◌then◌else◌, Option, Some, None}
 use Rattle.tn_base.specs.Sets.{toggle}
-use Rattle.tn_model.specs.declared.contract.Contract.{Contract}
 use Rattle.tn_model.specs.declared.ends.Ends.{Ends}
-use Rattle.tn_market.specs.Reduced.{reduced}
 use Rattle.tn_graph.specs.Blocks.{CostBlocks, arcs_of}
 
 -- the firm that buys the one trade and sells the other, with the bundle of the two; none where these are two firms, and
@@ -20,14 +17,7 @@ move_between None None = None
 abbrev pub arc_move : List Ends → ℕ → ℕ → Option (ℕ × ℕ)
 arc_move trades u v = move_between (slice_get trades u) (slice_get trades v)
 
--- the costs of the arcs from the first u nodes, and from node u to the first v ones, are written
-pub record AreWritten (arc : ℕ → ℕ → Option ℤ) (nodes u v : ℕ) (graph : CostBlocks) : Type 0 where
+-- the costs of the arcs from the first u nodes are written
+pub record AreWritten (arc : ℕ → ℕ → Option ℤ) (nodes u : ℕ) (graph : CostBlocks) : Type 0 where
   pub nodes_are : graph.nodes ≡ nodes
-  pub written : (a b : ℕ) → b < nodes → (a < u) ⊎ ((a ≡ u) × (b < v)) → arcs_of graph a b ≡ arc a b
-
--- the reduced worth of no unsigned trade of each firm
-pub record AreKeptWorths (firms : List Firm) (trades : List Ends) (over : ℤ) (contracts : List Contract)
-    (kept : List (Option ℤ)) : Type 0 where
-  pub counted : length kept ≡ length firms
-  pub each : (f : ℕ) (firm : Firm) → slice_get firms f ≡ Some firm
-      → slice_index_or kept f None ≡ (reduced trades over contracts f firm).worth 0
+  pub written : (a b : ℕ) → b < nodes → a < u → arcs_of graph a b ≡ arc a b

@@ -2,9 +2,10 @@
 
 ghost use Rattle.std.specs.Prelude.{◌≡◌, ◌+◌, ◌^◌, ◌≤◌, ◌<◌, IfOk, IfSome, Some, length, map, slice_get};
 ghost use Rattle.tn_base.specs.Arcs.{AreSmall};
-ghost use Rattle.tn_base.specs.Sets.{has, meet};
+ghost use Rattle.tn_base.specs.Sets.{has};
 ghost use Rattle.tn_chain.specs.Limits.{most_reduced_cost};
-ghost use Rattle.tn_chain.specs.Moves.{AreKeptWorths, AreWritten, move_between};
+ghost use Rattle.tn_chain.specs.Kept.{AreKept, IsKept};
+ghost use Rattle.tn_chain.specs.Moves.{AreWritten, move_between};
 ghost use Rattle.tn_graph.specs.Blocks.{arcs_of};
 ghost use Rattle.tn_graph.specs.Layout.{IsLaidOut};
 ghost use Rattle.tn_graph.specs.Reading.{IsExchangeGraph};
@@ -12,14 +13,14 @@ ghost use Rattle.tn_market.specs.Limits.{IsOutcomeOf, IsWithinLimits};
 ghost use Rattle.tn_market.specs.Graph.{loss};
 ghost use Rattle.tn_model.specs.Network.{IsNetwork};
 ghost use Rattle.tn_market.specs.Reduced.{reduced, reduced_arc, reduced_firms};
-ghost use Rattle.tn_market.specs.Signed.{signed_bundle};
 ghost use Rattle.tn_market.specs.NetworkOf.{network_of};
 
+use crate::kept::{Kept, all_kept, kept_of};
 use std::alloc::Global;
-use tn_base::{Bundle, OutOfMemory, TradeSet};
+use tn_base::{Bundle, Costs, OutOfMemory, TradeSet};
 use tn_graph::Graph;
 use tn_market::{Ends, Market, Oracle, Outcome, Valuation};
-use tn_residual::{contract_price, reduced_best};
+use tn_residual::reduced_best_beside;
 
 /// The ends of a node, None for the null node.
 fn ends_of<V: Valuation>(market: &Market<V>, node: u32) -> Option<Ends>
@@ -54,41 +55,12 @@ fn move_between(bought: Option<Ends>, sold: Option<Ends>) -> Option<(u32, Bundle
     }
 }
 
-/// The reduced worth of no unsigned trade of firm `f`.
-fn kept_worth<V: Oracle>(market: &Market<V>, outcome: &Outcome, f: u32) -> Option<i128>
-    requires limits { IsWithinLimits V.firm V.limit market.now }
-    requires outcome { IsOutcomeOf market.now.trades outcome.now.over outcome.now.contracts }
-    requires firm { f < length market.now.firms }
-    ensures worth { (v : V) → slice_get market.now.firms f ≡ Some v
-        → result ≡ (reduced market.now.trades outcome.now.over outcome.now.contracts f (V.firm v)).worth 0 }
-{
-    let (_, worth) = reduced_best(market, f, outcome, Bundle::empty())?;
-    Some(worth)
-}
-
-/// The same of each firm. It fails only where memory runs out.
-fn kept_worths<V: Oracle>(
-    alloc: Global,
-    market: &Market<V>,
-    outcome: &Outcome,
-) -> Result<Vec<Option<i128>>, OutOfMemory>
-    requires limits { IsWithinLimits V.firm V.limit market.now }
-    requires outcome { IsOutcomeOf market.now.trades outcome.now.over outcome.now.contracts }
-    ensures { IfOk result (λ kept. network_of V.firm market.now AreKeptWorths outcome.now.over outcome.now.contracts
-        kept.items) }
-{
-    let mut kept = Vec::with_capacity(alloc, market.firms() as usize)?;
-    for f in 0..market.firms() {
-        kept.push(kept_worth(market, outcome, f))?;
-    }
-    Ok(kept)
-}
-
-/// What firm `f` loses of its reduced worth, `before`, where it has a bundle of unsigned trades in place of none.
+/// What firm `f` loses of its reduced worth where it has a bundle in place of none, by what it keeps: None where the
+/// bundle has signed trades or is impossible.
 fn reduced_loss<V: Oracle>(
     market: &Market<V>,
     outcome: &Outcome,
-    before: Option<i128>,
+    kept: &Kept,
     f: u32,
     bundle: Bundle,
 ) -> Option<i128>
@@ -96,70 +68,66 @@ fn reduced_loss<V: Oracle>(
     requires outcome { IsOutcomeOf market.now.trades outcome.now.over outcome.now.contracts }
     requires firm { f < length market.now.firms }
     requires own { (v : V) → slice_get market.now.firms f ≡ Some v → bundle < 2 ^ (V.firm v).count }
-    requires before { (v : V) → slice_get market.now.firms f ≡ Some v
-        → before ≡ (reduced market.now.trades outcome.now.over outcome.now.contracts f (V.firm v)).worth 0 }
-    requires unsigned { (v : V) → slice_get market.now.firms f ≡ Some v
-        → meet bundle (signed_bundle market.now.trades outcome.now.contracts f (V.firm v)) ≡ 0 }
+    requires kept { (v : V) → slice_get market.now.firms f ≡ Some v
+        → IsKept market.now.trades outcome.now.over outcome.now.contracts f (V.firm v) kept.now }
     ensures loss { (v : V) → slice_get market.now.firms f ≡ Some v
         → result ≡ loss (reduced market.now.trades outcome.now.over outcome.now.contracts f (V.firm v)) 0 bundle }
 {
-    let before = before?;
-    let (_, after) = reduced_best(market, f, outcome, bundle)?;
+    if bundle.meet(kept.held.signed) != Bundle::empty() {
+        return None;
+    }
+    let before = kept.worth?;
+    let (_, after) = reduced_best_beside(market, f, outcome, &kept.held, bundle)?;
     Some(before - after)
 }
 
-/// The cost of the arc from node `u` to node `v`, by the firms' reduced worths of no unsigned trade.
+/// The cost of the arc from node `u` to node `v`, by what firms keep.
 fn reduced_cost<V: Oracle>(
     market: &Market<V>,
     outcome: &Outcome,
-    kept: &[Option<i128>],
+    kept: &[Kept],
     u: u32,
     v: u32,
 ) -> Option<i128>
     requires network { network_of V.firm market.now IsNetwork }
     requires limits { IsWithinLimits V.firm V.limit market.now }
     requires outcome { IsOutcomeOf market.now.trades outcome.now.over outcome.now.contracts }
-    requires kept { network_of V.firm market.now AreKeptWorths outcome.now.over outcome.now.contracts kept.now }
+    requires kept { network_of V.firm market.now AreKept outcome.now.over outcome.now.contracts kept.now }
     requires from { u ≤ length market.now.trades }
     requires to { v ≤ length market.now.trades }
     ensures cost { result ≡ network_of V.firm market.now reduced_arc outcome.now.over outcome.now.contracts u v }
 {
-    if contract_price(&outcome.contracts, u).is_some() {
-        return None;
-    }
-    if contract_price(&outcome.contracts, v).is_some() {
-        return None;
-    }
     match move_between(ends_of(market, u), ends_of(market, v)) {
         Some(moved) => {
-            let before = kept[moved.0 as usize];
+            let before = kept_of(kept, moved.0);
             reduced_loss(market, outcome, before, moved.0, moved.1)
         }
         None => None,
     }
 }
 
-/// Writes the costs of the arcs from node `u`.
+/// Writes the costs of the arcs from node `u`, which lead to nodes of one firm's block alone.
 fn write_row<V: Oracle>(
     graph: &mut Graph,
     market: &Market<V>,
     outcome: &Outcome,
-    kept: &[Option<i128>],
+    kept: &[Kept],
     u: u32,
 )
     requires network { network_of V.firm market.now IsNetwork }
     requires limits { IsWithinLimits V.firm V.limit market.now }
     requires outcome { IsOutcomeOf market.now.trades outcome.now.over outcome.now.contracts }
-    requires kept { network_of V.firm market.now AreKeptWorths outcome.now.over outcome.now.contracts kept.now }
+    requires kept { network_of V.firm market.now AreKept outcome.now.over outcome.now.contracts kept.now }
     requires from { u ≤ length market.now.trades }
     requires laid_out { IsLaidOut market.now.trades (has 0) graph.old.places }
     requires written { AreWritten (network_of V.firm market.now reduced_arc outcome.now.over outcome.now.contracts)
-        (length market.now.trades + 1) u 0 graph.old }
+        (length market.now.trades + 1) u graph.old }
     ensures laid_out { IsLaidOut market.now.trades (has 0) graph.new.places }
     ensures written { AreWritten (network_of V.firm market.now reduced_arc outcome.now.over outcome.now.contracts)
-        (length market.now.trades + 1) (u + 1) 0 graph.new }
+        (length market.now.trades + 1) (u + 1) graph.new }
 {
-    for v in 0..market.trades() + 1 {
+    for k in 0..graph.successors(u) {
+        let v = graph.successor(u, k);
         let cost = reduced_cost(market, outcome, kept, u, v);
         graph.set(u, v, cost);
     }
@@ -183,7 +151,7 @@ pub fn reduced_graph<V: Oracle>(
     let nodes = market.trades() + 1;
     let mut graph = Graph::new(alloc, nodes)?;
     graph.lay_out(market, &TradeSet::<32>::empty());
-    let kept = kept_worths(alloc, market, outcome)?;
+    let kept = all_kept(alloc, market, outcome)?;
     for u in 0..nodes {
         write_row(&mut graph, market, outcome, &kept, u);
     }

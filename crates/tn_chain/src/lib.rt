@@ -5,6 +5,7 @@
 mod chain;
 mod cycle;
 mod graph;
+mod kept;
 mod numbers;
 
 pub use chain::{chain_of, chain_scale};

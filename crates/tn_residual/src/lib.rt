@@ -11,4 +11,4 @@ mod worth;
 pub use laws::surplus_is_reduced_worth;
 pub use residual_market::residual;
 pub use signed::{Held, contract_price, signed_by, signed_trades};
-pub use worth::reduced_best;
+pub use worth::{reduced_best, reduced_best_beside};

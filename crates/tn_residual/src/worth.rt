@@ -5,9 +5,9 @@ ghost use Rattle.tn_base.specs.Sets.{meet, minus};
 ghost use Rattle.tn_market.specs.Limits.{IsOutcomeOf, IsWithinLimits};
 ghost use Rattle.tn_market.specs.Reduced.{reduced};
 ghost use Rattle.tn_market.specs.Signed.{contract_utility, signed_bundle};
-ghost use Rattle.tn_residual.specs.Held.{GivesPart};
+ghost use Rattle.tn_residual.specs.Held.{GivesPart, HoldsSigned};
 
-use crate::signed::signed_by;
+use crate::signed::{Held, signed_by};
 use tn_base::Bundle;
 use tn_market::{Market, Oracle, Outcome};
 
@@ -35,6 +35,32 @@ pub fn reduced_best<V: Oracle>(
         ≡ (reduced market.now.trades outcome.now.over outcome.now.contracts firm (V.firm v)).worth x }
 {
     let held = signed_by(market, firm, outcome);
+    reduced_best_beside(market, firm, outcome, &held, x)
+}
+
+/// The same by what the firm has signed, for who asks for several of them.
+pub fn reduced_best_beside<V: Oracle>(
+    market: &Market<V>,
+    firm: u32,
+    outcome: &Outcome,
+    held: &Held,
+    x: Bundle,
+) -> Option<(Bundle, i128)>
+    requires limits { IsWithinLimits V.firm V.limit market.now }
+    requires outcome { IsOutcomeOf market.now.trades outcome.now.over outcome.now.contracts }
+    requires firm { firm < length market.now.firms }
+    requires held { (v : V) → slice_get market.now.firms firm ≡ Some v → HoldsSigned market.now.trades
+        outcome.now.contracts firm (V.firm v).count held.now.signed held.now.prices }
+    requires own { (v : V) → slice_get market.now.firms firm ≡ Some v → x < 2 ^ (V.firm v).count }
+    requires unsigned { (v : V) → slice_get market.now.firms firm ≡ Some v
+        → meet x (signed_bundle market.now.trades outcome.now.contracts firm (V.firm v)) ≡ 0 }
+    ensures part { (v : V) → slice_get market.now.firms firm ≡ Some v
+        → GivesPart x (signed_bundle market.now.trades outcome.now.contracts firm (V.firm v))
+        (contract_utility market.now.trades outcome.now.over outcome.now.contracts firm (V.firm v)) result }
+    ensures worth { (v : V) → slice_get market.now.firms firm ≡ Some v
+        → option_map (λ found. found.1) result
+        ≡ (reduced market.now.trades outcome.now.over outcome.now.contracts firm (V.firm v)).worth x }
+{
     let firm = market.firm(firm);
     let prices = &held.prices[..firm.trades() as usize];
     without(firm.best(x, held.signed, outcome.over, prices), x)

@@ -10,5 +10,5 @@ abbrev pub invariant-loop-u : goal.invariant-loop-u
 invariant-loop-u g l = record {
   laid_out : IsLaidOut l.market.trades (has 0) l.graph.places;
   written : AreWritten (reduced_arc (map g.V.Valuation.firm l.market.firms) l.market.trades l.outcome.over
-      l.outcome.contracts) (length l.market.trades + 1) l.u 0 l.graph;
+      l.outcome.contracts) (length l.market.trades + 1) l.u l.graph;
 }

@@ -1,14 +1,14 @@
--- What the loops of `write_row` of `src/graph.rt` keep.
+-- What the loop of `write_row` of `src/graph.rt` keeps.
 use Rattle.std.proofs.Common.{map, length, ◌+◌}
 use Rattle.tn_base.specs.Sets.{has}
 use Rattle.tn_graph.specs.Layout.{IsLaidOut}
 use Rattle.tn_market.specs.Reduced.{reduced_arc}
-use Rattle.tn_chain.specs.Moves.{AreWritten}
+use Rattle.tn_chain.proofs.RowLemmas.{IsRowTo}
 use Rattle.tn_chain.proofs.graph.write_row.Given as goal
 
-abbrev pub invariant-loop-v : goal.invariant-loop-v
-invariant-loop-v g l = record {
+abbrev pub invariant-loop-k : goal.invariant-loop-k
+invariant-loop-k g l = record {
   laid_out : IsLaidOut l.market.trades (has 0) l.graph.places;
-  written : AreWritten (reduced_arc (map g.V.Valuation.firm l.market.firms) l.market.trades l.outcome.over
-      l.outcome.contracts) (length l.market.trades + 1) l.u l.v l.graph;
+  row : IsRowTo (reduced_arc (map g.V.Valuation.firm l.market.firms) l.market.trades l.outcome.over
+      l.outcome.contracts) (length l.market.trades + 1) l.u l.k l.initial.graph l.graph;
 }
