@@ -1,5 +1,6 @@
 -- The numbers of the unsigned trades.
 use Rattle.std.proofs.Common.{◌≡◌, ℕ, zero, suc, ◌+◌, ◌-◌, ◌<◌, ◌≤◌, Bool, true, false, not, ◌&&◌, if◌then◌else◌, List, [], ◌∷◌, length, Option, Some, None, refl, sym, ap, ap₂, ◌∙◌, subst, arith, inl, inr}
+use Rattle.std.specs.Prelude.{is_some}
 use Rattle.std.proofs.lemmas.Bool.{cases_eq, true≢false}
 use Rattle.tn_base.specs.Sets.{has, toggle, set_of, size}
 use Rattle.tn_base.proofs.SetLemmas.{has-toggle_same, has-toggle_other, has_above, set_of_within, has-zero}
@@ -247,6 +248,18 @@ number_is contracts t number none is test = ap₂ (λ (b : Bool) (n : ℕ). if b
   where
     by_case : (b : Bool) → ◌≡◌ {A = Option ℕ} (if not b then Some (number_from contracts 0 t) else None) (if b then None
         else Some (number_from contracts 0 t))
+    by_case true = refl
+    by_case false = refl
+
+-- how many are unsigned, by whether the next one has a number
+pub counted_more : (contracts : List Contract) (t before next : ℕ) (number : Option ℕ) (some : Bool)
+    → before ≡ number_from contracts 0 t → number ≡ unsigned_number contracts t → some ≡ is_some number
+    → next ≡ before + (if some then 1 else 0) → next ≡ number_from contracts 0 (t + 1)
+counted_more contracts t before next number some before_is number_is test is =
+    number_more contracts t before next some before_is
+    (test ∙ ap is_some number_is ∙ by_case (is_signed contracts t)) is
+  where
+    by_case : (b : Bool) → is_some (if b then None else Some (number_from contracts 0 t)) ≡ not b
     by_case true = refl
     by_case false = refl
 

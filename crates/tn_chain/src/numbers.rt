@@ -75,18 +75,27 @@ fn unsigned_before(contracts: &Contracts, t: u32) -> u32
     number
 }
 
+/// The number of trade `t` among the unsigned ones, None where it is signed, by how many before it are unsigned.
+fn number_after(contracts: &Contracts, t: u32, before: u32) -> Option<u32>
+    requires few { t < most_judged_trades }
+    requires before { before ≡ number_from contracts.now 0 t }
+    ensures number { result ≡ unsigned_number contracts.now t }
+    ensures small { IfSome result (λ n. n < most_judged_trades) }
+{
+    if contract_price(contracts, t).is_none() {
+        Some(before)
+    } else {
+        None
+    }
+}
+
 /// The number of trade `t` among the unsigned ones, None where it is signed.
 pub fn number_of(contracts: &Contracts, t: u32) -> Option<u32>
     requires few { t < most_judged_trades }
     ensures number { result ≡ unsigned_number contracts.now t }
     ensures small { IfSome result (λ n. n < most_judged_trades) }
 {
-    let number = unsigned_before(contracts, t);
-    if contract_price(contracts, t).is_none() {
-        Some(number)
-    } else {
-        None
-    }
+    number_after(contracts, t, unsigned_before(contracts, t))
 }
 
 /// The numbers of those of the first `count` trades that are unsigned and in a set.
@@ -95,8 +104,11 @@ pub fn numbers_of(contracts: &Contracts, count: u32, set: &TradeSet<16>) -> Trad
     ensures { AreNumbers contracts.now set.now count result }
 {
     let mut numbers = TradeSet::empty();
+    let mut before = 0;
     for t in 0..count {
-        add_if(&mut numbers, number_of(contracts, t), set.has(t));
+        let number = number_after(contracts, t, before);
+        add_if(&mut numbers, number, set.has(t));
+        before = one_more_if(before, number.is_some());
     }
     numbers
 }
@@ -119,9 +131,11 @@ pub fn trades_numbered(contracts: &Contracts, count: u32, numbers: &TradeSet<32>
     ensures { result ≡ unsigned_part contracts.now count numbers.now }
 {
     let mut trades = TradeSet::empty();
+    let mut before = 0;
     for t in 0..count {
-        let on = is_among(number_of(contracts, t), numbers);
-        toggle_if(&mut trades, t, on);
+        let number = number_after(contracts, t, before);
+        toggle_if(&mut trades, t, is_among(number, numbers));
+        before = one_more_if(before, number.is_some());
     }
     trades
 }
