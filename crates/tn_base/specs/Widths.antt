@@ -3,7 +3,7 @@ use Rattle.std.specs.Prelude.{ℕ, ◌^◌}
 
 -- a set of trades takes at most so many words of 64 trades each
 abbrev pub most_limbs : ℕ
-most_limbs = 32
+most_limbs = 256
 
 -- an amount, a cost or a gain of a firm, and a worth in a table, is at most so much in size
 abbrev pub most_amount : ℕ

@@ -40,6 +40,9 @@ labels-same nodes one other labels same are = record {
   keeps = λ u v c is. are.keeps u v c (sym (same u v) ∙ is);
   high = are.high;
   low = λ limit v small below. are.low limit v (λ a b cost is. small a b cost (same a b ∙ is)) below;
+  low_off = λ t off limit v small_off small below. are.low_off t off limit v
+      (λ a b cost a_off b_off is. small_off a b cost a_off b_off (same a b ∙ is))
+      (λ a b cost is. small a b cost (same a b ∙ is)) below;
 }
 
 -- labels of a graph of small costs are small

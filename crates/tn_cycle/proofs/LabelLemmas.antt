@@ -1,9 +1,9 @@
 -- The labels: what is left of the lowest cost after a node's least walk to the sink.
-use Rattle.std.proofs.Common.{◌≡◌, ◌≢◌, ℕ, ◌+◌, ◌-◌, ◌*◌, ◌<◌, ◌≤◌, refl, sym, ap, ◌∙◌, subst, arith, List, [], ◌∷◌, length, ℤ, pos, neg_ℤ, ◌+ℤ◌, ◌-ℤ◌, ◌≤ℤ◌, Option, Some, None, Bool, ◌==◌, if◌then◌else◌, nat_lt}
+use Rattle.std.proofs.Common.{◌≡◌, ◌≢◌, ℕ, ◌+◌, ◌-◌, ◌*◌, ◌<◌, ◌≤◌, refl, sym, ap, ◌∙◌, subst, arith, inl, inr, List, [], ◌∷◌, length, ℤ, pos, neg_ℤ, ◌+ℤ◌, ◌-ℤ◌, ◌≤ℤ◌, Option, Some, None, Bool, ◌==◌, if◌then◌else◌, nat_lt}
 use Rattle.std.specs.Prelude.{All, unwrap_or}
 use Rattle.std.proofs.lemmas.Int.{ints}
 use Rattle.std.proofs.Math.Nat.{mul-le-mul_right}
-use Rattle.std.proofs.lemmas.Bool.{ne_eqb, eq-eqb}
+use Rattle.std.proofs.lemmas.Bool.{cases_eq, ne_eqb, eq-eqb}
 use Rattle.std.proofs.lemmas.Option.{same_Some}
 use Rattle.std.proofs.lemmas.List.Elements.{All-nil, All-cons}
 use Rattle.tn_base.specs.Arcs.{AreBetweenNodes, AreSmall, IsAtMost}
@@ -17,7 +17,7 @@ use Rattle.tn_cycle.specs.Widths.{most_graph_nodes, most_walk_cost}
 use Rattle.tn_cycle.specs.Graphs.{with_sink}
 use Rattle.tn_cycle.specs.GraphLemmas.{small-with_sink, some_if, between-with_sink}
 use Rattle.tn_cycle.specs.Searched.{IsSettled}
-use Rattle.tn_cycle.specs.Answers.{AreLabels, IsLowestCost, label_in}
+use Rattle.tn_cycle.specs.Answers.{AreLabels, AreSmallOff, IsLowestCost, label_in}
 use Rattle.tn_cycle.proofs.OrderLemmas.{parts}
 use Rattle.tn_cycle.proofs.WalkLemmas.{AreApart, few_apart, avoids-cons, avoids-head, avoids-tail}
 use Rattle.tn_cycle.proofs.CellLemmas.{led_room}
@@ -52,26 +52,88 @@ sunk_at nodes sink arc cell small few same settled =
           (omega (arith, few)) found.leads found.few,
     )
 
+-- the arc to the sink costs 0
+sink_arc : (nodes : ℕ) (arc : ℕ → ℕ → Option ℤ) (v : ℕ) (cost : ℤ) → with_sink nodes arc v nodes ≡ Some cost
+    → pos 0 ≡ cost
+sink_arc nodes arc v cost walk =
+    let inside = some_if (nat_lt v nodes) (if nodes == nodes then Some (pos 0) else arc v nodes) cost walk in
+    same_Some (pos 0) cost (sym (ap (λ (s : Bool). if s then Some (pos 0)
+    else arc v nodes) (eq-eqb nodes nodes refl)) ∙ inside.1)
+
+-- other arcs are those of the graph
+plain_arc : (nodes : ℕ) (arc : ℕ → ℕ → Option ℤ) (v u : ℕ) (cost : ℤ) → u ≢ nodes
+    → with_sink nodes arc v u ≡ Some cost → arc v u ≡ Some cost
+plain_arc nodes arc v u cost other is =
+    let inside = some_if (nat_lt v nodes) (if u == nodes then Some (pos 0) else arc v u) cost is in
+    sym (ap (λ (s : Bool). if s then Some (pos 0) else arc v u) (ne_eqb u nodes other)) ∙ inside.1
+
 -- a walk to the sink, by the number of its arcs before the last
 sunk_low : (nodes : ℕ) (arc : ℕ → ℕ → Option ℤ) (limit : ℕ) → AreSmall arc limit → (v : ℕ) (ws : List ℕ) (cost : ℤ)
     → Avoids nodes ws
     → walk_cost (with_sink nodes arc) v ws nodes ≡ Some cost → neg_ℤ (pos (length ws * limit)) ≤ℤ cost
 sunk_low nodes arc limit small v [] cost avoids walk =
-    let inside = some_if (nat_lt v nodes) (if nodes == nodes then Some (pos 0) else arc v nodes) cost walk in
-    let e : pos 0 ≡ cost =
-    same_Some (pos 0) cost (sym (ap (λ (s : Bool). if s then Some (pos 0)
-    else arc v nodes) (eq-eqb nodes nodes refl)) ∙ inside.1) in
-    omega (arith, ints, e)
+    let e = sink_arc nodes arc v cost walk in omega (arith, ints, e)
 sunk_low nodes arc limit small v (u ∷ us) cost avoids walk =
     let two = parts (with_sink nodes arc v u) (walk_cost (with_sink nodes arc) u us nodes) cost walk in
-    let other : u ≢ nodes = avoids-head nodes u us avoids in
-    let inside = some_if (nat_lt v nodes) (if u == nodes then Some (pos 0) else arc v u) two.first two.first_is in
-    let plain : arc v u ≡ Some two.first =
-    sym (ap (λ (s : Bool). if s then Some (pos 0) else arc v u) (ne_eqb u nodes other)) ∙ inside.1 in
+    let plain = plain_arc nodes arc v u two.first (avoids-head nodes u us avoids) two.first_is in
     let one = small v u two.first plain in
     let rest : neg_ℤ (pos (length us * limit)) ≤ℤ two.second =
     sunk_low nodes arc limit small u us two.second (avoids-tail nodes u us avoids) two.second_is in
     omega (arith, ints, one.low, rest, two.sum_is)
+
+-- the same where costs off a node are smaller, by the walks that avoid it, those that begin at it, and all
+module _ (nodes : ℕ) (arc : ℕ → ℕ → Option ℤ) (t off limit : ℕ) (small_off : AreSmallOff arc t off)
+    (small : AreSmall arc limit) where
+  sunk_avoiding : (v : ℕ) (ws : List ℕ) (cost : ℤ) → v ≢ t → Avoids nodes ws → Avoids t ws
+      → walk_cost (with_sink nodes arc) v ws nodes ≡ Some cost → neg_ℤ (pos (length ws * off)) ≤ℤ cost
+  sunk_avoiding v [] cost other avoids off_t walk =
+      let e = sink_arc nodes arc v cost walk in omega (arith, ints, e)
+  sunk_avoiding v (u ∷ us) cost other avoids off_t walk =
+      let two = parts (with_sink nodes arc v u) (walk_cost (with_sink nodes arc) u us nodes) cost walk in
+      let plain = plain_arc nodes arc v u two.first (avoids-head nodes u us avoids) two.first_is in
+      let here : u ≢ t = avoids-head t u us off_t in
+      let one = small_off v u two.first other here plain in
+      let rest : neg_ℤ (pos (length us * off)) ≤ℤ two.second =
+      sunk_avoiding u us two.second here (avoids-tail nodes u us avoids) (avoids-tail t u us off_t) two.second_is in
+      omega (arith, ints, one.low, rest, two.sum_is)
+
+  sunk_from : (ws : List ℕ) (cost : ℤ) → Avoids nodes ws → Avoids t ws
+      → walk_cost (with_sink nodes arc) t ws nodes ≡ Some cost → neg_ℤ (pos (length ws * off + limit)) ≤ℤ cost
+  sunk_from [] cost avoids off_t walk = let e = sink_arc nodes arc t cost walk in omega (arith, ints, e)
+  sunk_from (u ∷ us) cost avoids off_t walk =
+      let two = parts (with_sink nodes arc t u) (walk_cost (with_sink nodes arc) u us nodes) cost walk in
+      let plain = plain_arc nodes arc t u two.first (avoids-head nodes u us avoids) two.first_is in
+      let one = small t u two.first plain in
+      let rest : neg_ℤ (pos (length us * off)) ≤ℤ two.second =
+      sunk_avoiding u us two.second (avoids-head t u us off_t) (avoids-tail nodes u us avoids)
+      (avoids-tail t u us off_t) two.second_is in
+      omega (arith, ints, one.low, rest, two.sum_is)
+
+  sunk_low_off : (v : ℕ) (ws : List ℕ) (cost : ℤ) → Avoids nodes ws → AreApart (v ∷ ws)
+      → walk_cost (with_sink nodes arc) v ws nodes ≡ Some cost → neg_ℤ (pos (length ws * off + 2 * limit)) ≤ℤ cost
+  unfolding AreApart
+  sunk_low_off v [] cost avoids apart walk = let e = sink_arc nodes arc v cost walk in omega (arith, ints, e)
+  sunk_low_off v (u ∷ us) cost avoids apart walk =
+      let two = parts (with_sink nodes arc v u) (walk_cost (with_sink nodes arc) u us nodes) cost walk in
+      let plain = plain_arc nodes arc v u two.first (avoids-head nodes u us avoids) two.first_is in
+      let later = avoids-tail nodes u us avoids in
+      elim (cases_eq v t) [
+        | inl begins ↦
+            let from = sunk_from (u ∷ us) cost avoids (subst (λ (z : ℕ). Avoids z (u ∷ us)) begins apart.0)
+            (subst (λ (z : ℕ). walk_cost (with_sink nodes arc) z (u ∷ us) nodes ≡ Some cost) begins walk) in
+            omega (arith, ints, from)
+        | inr other ↦ elim (cases_eq u t) [
+          | inl enters ↦
+              let one = small v u two.first plain in
+              let rest = sunk_from us two.second later (subst (λ (z : ℕ). Avoids z us) enters apart.1.0)
+              (subst (λ (z : ℕ). walk_cost (with_sink nodes arc) z us nodes ≡ Some two.second) enters two.second_is) in
+              omega (arith, ints, one.low, rest, two.sum_is)
+          | inr passes ↦
+              let one = small_off v u two.first other passes plain in
+              let rest = sunk_low_off u us two.second later apart.1 two.second_is in
+              omega (arith, ints, one.low, rest, two.sum_is)
+        ]
+      ]
 
 module _ (nodes : ℕ) (arc : ℕ → ℕ → Option ℤ) (cell : ℕ → Cell) (between : AreBetweenNodes nodes arc)
     (found : IsSettled (nodes + 1) (with_sink nodes arc) nodes cell) where
@@ -124,11 +186,18 @@ module _ (nodes : ℕ) (arc : ℕ → ℕ → Option ℤ) (cell : ℕ → Cell) 
       ∙ ap (λ (z : Option ℤ). lowest -ℤ unwrap_or z (pos 0)) next.1 in
       omega (arith, ints, over, first, second)
 
-  -- the least walks to the sink have few arcs before their last
-  pub depth_low : HasNoNegativeCycle arc → (limit v : ℕ) → AreSmall arc limit → v < nodes
-      → neg_ℤ (pos ((nodes - 1) * limit)) ≤ℤ unwrap_or (cell v).cost (pos 0)
+  -- what a node's least walk to the sink is like
+  record IsSunkPath (v : ℕ) : Type 0 where
+    cost : ℤ
+    cost_is : (cell v).cost ≡ Some cost
+    walk : walk_cost (with_sink nodes arc) v (trail cell (cell v).inner_nodes v) nodes ≡ Some cost
+    avoids : Avoids nodes (trail cell (cell v).inner_nodes v)
+    apart : AreApart (v ∷ trail cell (cell v).inner_nodes v)
+    few : length (v ∷ trail cell (cell v).inner_nodes v) < nodes + 1
+
+  sunk_path : HasNoNegativeCycle arc → (v : ℕ) → v < nodes → IsSunkPath v
   unfolding AreApart
-  depth_low none limit v small inside =
+  sunk_path none v inside =
       let here = sunk v inside in
       let wide : AreBetweenNodes (nodes + 1) (with_sink nodes arc) = between-with_sink nodes arc between in
       let off = none_off_sink nodes arc between none in
@@ -141,15 +210,41 @@ module _ (nodes : ℕ) (arc : ℕ → ℕ → Option ℤ) (cell : ℕ → Cell) 
       let all : All (λ u. u < nodes + 1) (v ∷ trail cell (cell v).inner_nodes v) =
       All-cons (λ u. u < nodes + 1) v (trail cell (cell v).inner_nodes v) node
       (led_inside (nodes + 1) (with_sink nodes arc) nodes cell wide off found v node) in
-      let few : length (v ∷ trail cell (cell v).inner_nodes v) < nodes + 1 =
-      few_apart (nodes + 1) nodes (v ∷ trail cell (cell v).inner_nodes v) (omega arith) all
-      (avoids-cons nodes v (trail cell (cell v).inner_nodes v) other (found.avoids v node)) apart in
-      let low : neg_ℤ (pos (length (trail cell (cell v).inner_nodes v) * limit)) ≤ℤ here.0 =
-      sunk_low nodes arc limit small v (trail cell (cell v).inner_nodes v) here.0 (found.avoids v node)
-      (led_walk (nodes + 1) (with_sink nodes arc) nodes cell wide off found v here.0 node here.1) in
+      record {
+        cost = here.0;
+        cost_is = here.1;
+        walk = led_walk (nodes + 1) (with_sink nodes arc) nodes cell wide off found v here.0 node here.1;
+        avoids = found.avoids v node;
+        apart = apart;
+        few = few_apart (nodes + 1) nodes (v ∷ trail cell (cell v).inner_nodes v) (omega arith) all
+            (avoids-cons nodes v (trail cell (cell v).inner_nodes v) other (found.avoids v node)) apart;
+      }
+
+  -- the least walks to the sink have few arcs before their last
+  pub depth_low : HasNoNegativeCycle arc → (limit v : ℕ) → AreSmall arc limit → v < nodes
+      → neg_ℤ (pos ((nodes - 1) * limit)) ≤ℤ unwrap_or (cell v).cost (pos 0)
+  depth_low none limit v small inside =
+      let path = sunk_path none v inside in
+      let few = path.few in
+      let low : neg_ℤ (pos (length (trail cell (cell v).inner_nodes v) * limit)) ≤ℤ path.cost =
+      sunk_low nodes arc limit small v (trail cell (cell v).inner_nodes v) path.cost path.avoids path.walk in
       let more : length (trail cell (cell v).inner_nodes v) * limit ≤ (nodes - 1) * limit =
       mul-le-mul_right limit (omega (arith, few)) in
-      let is : unwrap_or (cell v).cost (pos 0) ≡ here.0 = ap (λ (z : Option ℤ). unwrap_or z (pos 0)) here.1 in
+      let is : unwrap_or (cell v).cost (pos 0) ≡ path.cost = ap (λ (z : Option ℤ). unwrap_or z (pos 0)) path.cost_is in
+      omega (arith, ints, low, more, is)
+
+  -- and two of them at most at any node
+  pub depth_low_off : HasNoNegativeCycle arc → (t off limit v : ℕ) → AreSmallOff arc t off → AreSmall arc limit
+      → v < nodes → neg_ℤ (pos ((nodes - 1) * off + 2 * limit)) ≤ℤ unwrap_or (cell v).cost (pos 0)
+  depth_low_off none t off limit v small_off small inside =
+      let path = sunk_path none v inside in
+      let few = path.few in
+      let low : neg_ℤ (pos (length (trail cell (cell v).inner_nodes v) * off + 2 * limit)) ≤ℤ path.cost =
+      sunk_low_off nodes arc t off limit small_off small v (trail cell (cell v).inner_nodes v) path.cost path.avoids
+      path.apart path.walk in
+      let more : length (trail cell (cell v).inner_nodes v) * off ≤ (nodes - 1) * off =
+      mul-le-mul_right off (omega (arith, few)) in
+      let is : unwrap_or (cell v).cost (pos 0) ≡ path.cost = ap (λ (z : Option ℤ). unwrap_or z (pos 0)) path.cost_is in
       omega (arith, ints, low, more, is)
 
   -- the labels answer
@@ -164,11 +259,18 @@ module _ (nodes : ℕ) (arc : ℕ → ℕ → Option ℤ) (cell : ℕ → Cell) 
         let bound : neg_ℤ (pos ((nodes - 1) * limit)) ≤ℤ lowest =
         least.greatest (neg_ℤ (pos ((nodes - 1) * limit))) (omega (arith, ints))
         (λ u node. depth_low none limit u small node) in
-        let depth_high : unwrap_or (cell v).cost (pos 0) ≤ℤ pos 0 =
-        let here = sunk v inside in subst (λ (z : Option ℤ). unwrap_or z (pos 0) ≤ℤ pos 0) (sym here.1) here.2 in
-        omega (arith, ints, are v inside, bound, depth_high);
+        omega (arith, ints, are v inside, bound, depth_high v inside);
+    low_off = λ t off limit v small_off small inside.
+        let bound : neg_ℤ (pos ((nodes - 1) * off + 2 * limit)) ≤ℤ lowest =
+        least.greatest (neg_ℤ (pos ((nodes - 1) * off + 2 * limit))) (omega (arith, ints))
+        (λ u node. depth_low_off none t off limit u small_off small node) in
+        omega (arith, ints, are v inside, bound, depth_high v inside);
   }
     where
+      depth_high : (v : ℕ) → v < nodes → unwrap_or (cell v).cost (pos 0) ≤ℤ pos 0
+      depth_high v inside = let here = sunk v inside in
+          subst (λ (z : Option ℤ). unwrap_or z (pos 0) ≤ℤ pos 0) (sym here.1) here.2
+
       keeps : KeepsArcs arc (label_in labels)
       keeps = labels_keep lowest (label_in labels) are
 

@@ -1,5 +1,5 @@
 -- What the searches answer.
-use Rattle.std.specs.Prelude.{◌≡◌, ℕ, ◌+◌, ◌-◌, ◌*◌, ◌<◌, ◌≤◌, ◌⊎◌, ℤ, pos, neg_ℤ, ◌≤ℤ◌, ◌<ℤ◌, List, [], ◌∷◌, ◌++◌, length, All, Option, Some, None, slice_index_or, unwrap_or, Bool, true, false}
+use Rattle.std.specs.Prelude.{◌≡◌, ◌≢◌, ℕ, ◌+◌, ◌-◌, ◌*◌, ◌<◌, ◌≤◌, ◌⊎◌, ℤ, pos, neg_ℤ, ◌≤ℤ◌, ◌<ℤ◌, List, [], ◌∷◌, ◌++◌, length, All, Option, Some, None, slice_index_or, unwrap_or, Bool, true, false}
 use Rattle.tn_base.specs.Arcs.{AreSmall, IsAtMost}
 use Rattle.tn_base.specs.Walks.{AreDifferent, Avoids, CyclesCostAtLeast, HasNoNegativeCycle, IsCycle, IsLeastCycle, KeepsArcs, IsLeastWalk, IsUnreached, is_admitted, is_looked_at}
 use Rattle.tn_cycle.specs.declared.cell.Cell.{Cell}
@@ -66,12 +66,18 @@ label_in labels v = slice_index_or labels v (pos 0)
 abbrev pub AreNear : ℕ → List ℤ → Type 0
 AreNear reach labels = (v : ℕ) → v < length labels → IsAtMost (label_in labels v) reach
 
--- the labels keep the arcs, and are between 0 and the least cost of a path
+-- no cost of an arc that neither begins nor ends at t is above this size
+abbrev pub AreSmallOff : (ℕ → ℕ → Option ℤ) → ℕ → ℕ → Type 0
+AreSmallOff arc t limit = (a b : ℕ) (cost : ℤ) → a ≢ t → b ≢ t → arc a b ≡ Some cost → IsAtMost cost limit
+
+-- the labels keep the arcs, and are between 0 and the least cost of a path, which has two arcs at most at any node
 pub record AreLabels (nodes : ℕ) (arc : ℕ → ℕ → Option ℤ) (labels : List ℤ) : Type 0 where
   pub one_each : length labels ≡ nodes
   pub keeps : KeepsArcs arc (label_in labels)
   pub high : (v : ℕ) → v < nodes → label_in labels v ≤ℤ pos 0
   pub low : (limit v : ℕ) → AreSmall arc limit → v < nodes → neg_ℤ (pos ((nodes - 1) * limit)) ≤ℤ label_in labels v
+  pub low_off : (t off limit v : ℕ) → AreSmallOff arc t off → AreSmall arc limit → v < nodes
+      → neg_ℤ (pos ((nodes - 1) * off + 2 * limit)) ≤ℤ label_in labels v
 
 -- a number that is at most 0 and at most the costs of the first cells, and that no other such number is above
 pub record IsLowestCost (nodes : ℕ) (cell : ℕ → Cell) (lowest : ℤ) : Type 0 where

@@ -8,7 +8,7 @@ most_graph_nodes = 64 * most_limbs + 1
 
 -- the cost of a walk in a cell is at most so much in size
 abbrev pub most_walk_cost : ℕ
-most_walk_cost = 10 ^ 22
+most_walk_cost = 10 ^ 23
 
 -- a label or a distance that is read is at most so much in size
 abbrev pub most_read : ℕ
@@ -16,7 +16,7 @@ most_read = 2 ^ 100
 
 -- labels that a search goes by are at most so much in size
 abbrev pub most_label : ℕ
-most_label = 10 ^ 26
+most_label = 10 ^ 27
 
 -- a search for a cycle takes the labels of a graph of so many nodes at most so much farther from 0
 abbrev pub label_step : ℕ → ℕ

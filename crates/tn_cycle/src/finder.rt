@@ -65,7 +65,7 @@ impl Finder {
     ghost use Rattle.tn_cycle.specs.Reading.{ListsNoWalks, ReadsWalks, nothing};
     ghost use Rattle.tn_cycle.specs.Answers.{AnswersCycle, AnswersLabels, AnswersLeast, AnswersThrough, AreLabels, AreNear, LeadsAlong, LeadsLeast, cost_of, distance_in, is_labelled, label_in, walk_in};
 
-    /// A finder for graphs of so many nodes, at least 1 and at most 2,049. Nothing may be read yet. It takes all memory
+    /// A finder for graphs of so many nodes, at least 1 and at most 16,385. Nothing may be read yet. It takes all memory
     /// that the searches need, and refuses where that isn't there.
     pub fn new(alloc: Global, nodes: u32) -> Result<Finder, OutOfMemory>
         requires some { 1 ≤ nodes }
@@ -282,7 +282,7 @@ impl Finder {
     }
 
     /// The same on the whole graph.
-    fn settle<C: Costs>(&mut self, costs: &C)
+    fn relabel_whole<C: Costs>(&mut self, costs: &C)
         requires sized { C.node_count costs.now ≡ self.old.nodes }
         requires labelled { length self.old.labels ≡ self.old.nodes }
         requires near { AreNear most_label self.old.labels }
@@ -305,8 +305,9 @@ impl Finder {
 
     /// Looks for labels: a number for each node, such that no arc costs less than the label of its end less that of its
     /// begin. There are some exactly where no cycle is negative. Each is at most 0, and at least minus the largest size
-    /// of a cost times one less than the number of nodes. Otherwise it answers a negative cycle without a node twice,
-    /// which begins with the null node where it has that, and with its lowest node where it doesn't.
+    /// of a cost times one less than the number of nodes; where arcs at one node are dearer than the others, at least
+    /// minus twice their largest size and the same product of the others'. Otherwise it answers a negative cycle without
+    /// a node twice, which begins with the null node where it has that, and with its lowest node where it doesn't.
     pub fn labels<C: Costs>(&mut self, costs: &C) -> Labels
         requires sized { C.node_count costs.now ≡ self.old.nodes }
         ensures answer { AnswersLabels self.old.nodes (C.arc costs.now) self.new result }
@@ -325,7 +326,7 @@ impl Finder {
         match found {
             Path::None => {
                 self.labelled = self.nodes;
-                self.settle(costs);
+                self.relabel_whole(costs);
                 Labels::Feasible
             }
             Path::Cycle { cost, length } => {

@@ -62,7 +62,7 @@ fn label_by_prices(finder: &mut Finder, prices: &Prices, trades: u32)
 /// them. It asks for at most a worth for each two places of each firm, and fails only where memory runs out (the
 /// lattice of prices: Gul and Stacchetti, 1999, and Hatfield, Kominers, Nichifor, Ostrovsky and Westkamp, 2013; by
 /// least walks, Murota, 2003). The market has at most `64 * W` trades, twice the bound of each firm is at most 10^18,
-/// and no price is above 10^26 in size.
+/// and no price is above 10^27 in size.
 pub fn range<V: Valuation, const W: usize>(
     alloc: Global,
     market: &Market<V>,

@@ -17,12 +17,12 @@ use Rattle.tn_cycle.proofs.finder.Finder.labels.Goals as goal
 pub returns-in-None-clause-answer : goal.returns-in-None-clause-answer
 returns-in-None-clause-answer g c =
     let arc = g.C.Costs.arc c.args.costs.now in
-    let labels = c.settle.new.self.labels in
+    let labels = c.relabel_whole.new.self.labels in
     let same : c.args.self.now.nodes ≡ c.self.inside.nodes =
     ap (λ (reading : Reading). reading.nodes) (sym c.self.view_is) in
     let are : AreLabels c.args.self.now.nodes arc labels =
-    subst (λ (n : ℕ). AreLabels n arc labels) (sym same) c.settle.ensures.labels in
-    (none_negative_kept arc (label_in labels) are.keeps, are, c.settle.ensures.none_listed)
+    subst (λ (n : ℕ). AreLabels n arc labels) (sym same) c.relabel_whole.ensures.labels in
+    (none_negative_kept arc (label_in labels) are.keeps, are, c.relabel_whole.ensures.none_listed)
 
 pub returns-in-Cycle-clause-answer : goal.returns-in-Cycle-clause-answer
 returns-in-Cycle-clause-answer g c =
@@ -88,16 +88,16 @@ all-written : (written old : List ℤ) (places nodes : ℕ) → length written �
 all-written written old places nodes whole sized =
     ap (take nodes) (written-back written old places whole) ∙ take_all nodes written (omega (arith, whole, sized))
 
-pub settle-requires-clause-labelled : goal.settle-requires-clause-labelled
-settle-requires-clause-labelled g c =
+pub relabel_whole-requires-clause-labelled : goal.relabel_whole-requires-clause-labelled
+relabel_whole-requires-clause-labelled g c =
     let f = c.self.inside in
     let labels = c.grow_labels-found.new.labels in
     let whole : length labels ≡ f.labels.len = c.grow_labels-found.auto.labels ∙ c.deref_mut.ensures.len in
     ap length (all-written labels f.labels.items f.labels.len f.nodes whole c.self.invariant.labels_sized) ∙ whole
     ∙ c.self.invariant.labels_sized
 
-pub settle-requires-clause-near : goal.settle-requires-clause-near
-settle-requires-clause-near g c =
+pub relabel_whole-requires-clause-near : goal.relabel_whole-requires-clause-near
+relabel_whole-requires-clause-near g c =
     let f = c.self.inside in
     let arc = g.C.Costs.arc c.args.costs.now in
     let found = c.grow_labels-found in
@@ -109,8 +109,8 @@ settle-requires-clause-near g c =
     (sym (all-written labels f.labels.items f.labels.len f.nodes (found.auto.labels ∙ c.deref_mut.ensures.len)
     c.self.invariant.labels_sized)) answer.1
 
-pub settle-requires-clause-keeps : goal.settle-requires-clause-keeps
-settle-requires-clause-keeps g c =
+pub relabel_whole-requires-clause-keeps : goal.relabel_whole-requires-clause-keeps
+relabel_whole-requires-clause-keeps g c =
     let f = c.self.inside in
     let arc = g.C.Costs.arc c.args.costs.now in
     let found = c.grow_labels-found in
