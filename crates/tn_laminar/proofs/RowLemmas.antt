@@ -2,7 +2,7 @@
 use Rattle.std.proofs.Common.{◌≡◌, ℕ, zero, suc, ◌+◌, ◌*◌, ◌^◌, ◌<◌, ◌≤◌, Bool, true, false, not, ◌&&◌, if◌then◌else◌, refl, sym, ap, ap₂, ◌∙◌, subst, arith, inl, inr, ◌⊎◌, add-one, List, length, map, get_or, Option, Some, None, ℤ, pos, neg_ℤ, ◌+ℤ◌, ◌-ℤ◌, ◌≤ℤ◌}
 use Rattle.std.specs.Prelude.{All, ◌<ℤ◌, slice_get, IfSome, int_le}
 use Rattle.std.proofs.lemmas.Int.{ints}
-use Rattle.std.proofs.lemmas.Bool.{cases_Bool, cases_eq, lt-ltb}
+use Rattle.std.proofs.lemmas.Bool.{and_parts, cases_Bool, cases_eq, lt-ltb}
 use Rattle.std.proofs.lemmas.List.{get_or-set_same, get_or-set_other, get_or_read}
 use Rattle.tn_base.specs.Arcs.{IsAtMost}
 use Rattle.tn_base.specs.Firm.{net}
@@ -287,39 +287,53 @@ slope_is buys x sets masks k set mask here above below masked set_is mask_is her
 
 -- ---- one set, member by member
 
--- the changes by the first k sets, with the set at place k too for all but the rest of its members
-pub record IsAdding (buys : ℕ) (sets : List LaminarSet) (k x n members rest : ℕ) (changes : List ℤ) : Type 0 where
+-- the changes by the first k sets at wanted positions, with the set at place k too for all but the rest of its members
+pub record IsAdding (buys : ℕ) (sets : List LaminarSet) (k x wanted members rest : ℕ) (changes : List ℤ) : Type 0 where
   pub within : (i : ℕ) → has rest i ≡ true → has members i ≡ true
-  pub are : (i : ℕ) → i < n → get_or changes i (pos 0) ≡ (if has rest i then counted_change buys sets k x i
+  pub asked : (i : ℕ) → has rest i ≡ true → has wanted i ≡ true
+  pub are : (i : ℕ) → has wanted i ≡ true → get_or changes i (pos 0) ≡ (if has rest i then counted_change buys sets k x i
       else counted_change buys sets (k + 1) x i)
 
-pub adding_start : (buys : ℕ) (sets : List LaminarSet) (k x n : ℕ) (set : LaminarSet) (changes : List ℤ)
-    → slice_get sets k ≡ Some set
-    → AreChanges buys sets k x n changes → IsAdding buys sets k x n set.members set.members changes
-adding_start buys sets k x n set changes is so_far = record {
-  within = λ i h. h;
-  are = λ i below. so_far i below ∙ elim (cases_Bool (has set.members i)) [
+second_in : (a b : Bool) → b ≡ true → (a && b) ≡ a
+second_in true b q = q
+second_in false b q = refl
+
+pub adding_start : (buys : ℕ) (sets : List LaminarSet) (k x wanted : ℕ) (set : LaminarSet) (rest : ℕ)
+    (changes : List ℤ) → slice_get sets k ≡ Some set → rest ≡ meet set.members wanted
+    → AreChanges buys sets k x wanted changes → IsAdding buys sets k x wanted set.members rest changes
+adding_start buys sets k x wanted set rest changes is rest_is so_far = record {
+  within = λ i h. (and_parts _ _ (sym (rest_has i) ∙ h)).0;
+  asked = λ i h. (and_parts _ _ (sym (rest_has i) ∙ h)).1;
+  are = λ i wants. so_far i wants ∙ elim (cases_Bool (has set.members i)) [
     | inl member ↦
         sym (ap (λ (b : Bool). if b then counted_change buys sets k x i
-        else counted_change buys sets (k + 1) x i) member)
+        else counted_change buys sets (k + 1) x i) (rest_has i ∙ second_in _ _ wants ∙ member))
     | inr absent ↦
         sym (ap (λ (b : Bool). if b then counted_change buys sets k x i
-        else counted_change buys sets (k + 1) x i) absent ∙ other_changes buys sets k x i set is absent)
+        else counted_change buys sets (k + 1) x i) (rest_has i ∙ second_in _ _ wants ∙ absent)
+        ∙ other_changes buys sets k x i set is absent)
   ];
 }
+  where
+    rest_has : (i : ℕ) → has rest i ≡ (has set.members i && has wanted i)
+    rest_has i = ap (λ (y : ℕ). has y i) rest_is ∙ has-meet set.members wanted i
 
-pub adding_more : (buys : ℕ) (sets : List LaminarSet) (k x n : ℕ) (set : LaminarSet) (slope : Slope) (rest j : ℕ)
+pub adding_more : (buys : ℕ) (sets : List LaminarSet) (k x wanted : ℕ) (set : LaminarSet) (slope : Slope) (rest j : ℕ)
     (changes : List ℤ) → slice_get sets k ≡ Some set
-    → IsSlope buys x set slope → IsAdding buys sets k x n set.members rest changes → has rest j ≡ true
+    → IsSlope buys x set slope → IsAdding buys sets k x wanted set.members rest changes → has rest j ≡ true
     → j < length changes → (sum : ℤ)
     → sum ≡ counted_change buys sets k x j +ℤ step_of buys x slope j
-    → IsAdding buys sets k x n set.members (toggle rest j) (set_at changes j sum)
-adding_more buys sets k x n set slope rest j changes is slope_is adding member inside sum sum_is = record {
+    → IsAdding buys sets k x wanted set.members (toggle rest j) (set_at changes j sum)
+adding_more buys sets k x wanted set slope rest j changes is slope_is adding member inside sum sum_is = record {
   within = λ i h. elim (cases_eq i j) [
     | inl e ↦ subst (λ (m : ℕ). has set.members m ≡ true) (sym e) (adding.within j member)
     | inr d ↦ adding.within i (sym (has-toggle_other rest j i d) ∙ h)
   ];
-  are = λ i below. elim (cases_eq i j) [
+  asked = λ i h. elim (cases_eq i j) [
+    | inl e ↦ subst (λ (m : ℕ). has wanted m ≡ true) (sym e) (adding.asked j member)
+    | inr d ↦ adding.asked i (sym (has-toggle_other rest j i d) ∙ h)
+  ];
+  are = λ i wants. elim (cases_eq i j) [
     | inl e ↦
         let gone : has (toggle rest j) i ≡ false = ap (has (toggle rest j)) e ∙ has-toggle_same rest j ∙ ap not member
         in
@@ -330,31 +344,32 @@ adding_more buys sets k x n set slope rest j changes is slope_is adding member i
         ∙ sym (ap (λ (b : Bool). if b then counted_change buys sets k x i
         else counted_change buys sets (k + 1) x i) gone)
     | inr d ↦
-        get_or-set_other changes j i sum (pos 0) d ∙ adding.are i below
+        get_or-set_other changes j i sum (pos 0) d ∙ adding.are i wants
         ∙ ap (λ (b : Bool). if b then counted_change buys sets k x i
         else counted_change buys sets (k + 1) x i) (sym (has-toggle_other rest j i d))
   ];
 }
 
-pub adding_end : (buys : ℕ) (sets : List LaminarSet) (k x n members rest : ℕ) (changes : List ℤ)
-    → IsAdding buys sets k x n members rest changes → rest ≡ 0
-    → AreChanges buys sets (k + 1) x n changes
-adding_end buys sets k x n members rest changes adding none i below =
-    adding.are i below ∙ ap (λ (b : Bool). if b then counted_change buys sets k x i
+pub adding_end : (buys : ℕ) (sets : List LaminarSet) (k x wanted members rest : ℕ) (changes : List ℤ)
+    → IsAdding buys sets k x wanted members rest changes → rest ≡ 0
+    → AreChanges buys sets (k + 1) x wanted changes
+adding_end buys sets k x wanted members rest changes adding none i wants =
+    adding.are i wants ∙ ap (λ (b : Bool). if b then counted_change buys sets k x i
     else counted_change buys sets (k + 1) x i) (ap (λ (y : ℕ). has y i) none ∙ has-zero i)
 
 -- a member of the rest is one of the firm's positions, and its change is by the first k sets alone
-pub rest_own : (buys : ℕ) (sets : List LaminarSet) (k x n : ℕ) (set : LaminarSet) (rest j : ℕ) (changes : List ℤ)
-    → All (IsOwnSet n) sets → slice_get sets k ≡ Some set
-    → IsAdding buys sets k x n set.members rest changes → has rest j ≡ true → j < n
-rest_own buys sets k x n set rest j changes own is adding member =
+pub rest_own : (buys : ℕ) (sets : List LaminarSet) (k x n wanted : ℕ) (set : LaminarSet) (rest j : ℕ)
+    (changes : List ℤ) → All (IsOwnSet n) sets → slice_get sets k ≡ Some set
+    → IsAdding buys sets k x wanted set.members rest changes → has rest j ≡ true → j < n
+rest_own buys sets k x n wanted set rest j changes own is adding member =
     has_below set.members n j (all_at (IsOwnSet n) sets k set own is) (adding.within j member)
 
-pub rest_change : (buys : ℕ) (sets : List LaminarSet) (k x n : ℕ) (set : LaminarSet) (rest j : ℕ) (changes : List ℤ)
-    → IsAdding buys sets k x n set.members rest changes → has rest j ≡ true → j < n
+pub rest_change : (buys : ℕ) (sets : List LaminarSet) (k x wanted : ℕ) (set : LaminarSet) (rest j : ℕ)
+    (changes : List ℤ)
+    → IsAdding buys sets k x wanted set.members rest changes → has rest j ≡ true
     → get_or changes j (pos 0) ≡ counted_change buys sets k x j
-rest_change buys sets k x n set rest j changes adding member below =
-    adding.are j below ∙ ap (λ (b : Bool). if b then counted_change buys sets k x j
+rest_change buys sets k x wanted set rest j changes adding member =
+    adding.are j (adding.asked j member) ∙ ap (λ (b : Bool). if b then counted_change buys sets k x j
     else counted_change buys sets (k + 1) x j) member
 
 -- the code's numbers fit
@@ -366,12 +381,12 @@ change_small buys sets k x j all =
     record { low = omega (arith, ints, first.low, second.high); high = omega (arith, ints, first.high, second.low) }
 
 -- no set changes nothing
-pub changes_none : (buys : ℕ) (sets : List LaminarSet) (x n : ℕ) (changes : List ℤ)
-    → ((j : ℕ) → j < n → get_or changes j (pos 0) ≡ pos 0) → AreChanges buys sets 0 x n changes
-changes_none buys sets x n changes zeros j below =
+pub changes_none : (buys : ℕ) (sets : List LaminarSet) (x wanted : ℕ) (changes : List ℤ)
+    → ((j : ℕ) → has wanted j ≡ true → get_or changes j (pos 0) ≡ pos 0) → AreChanges buys sets 0 x wanted changes
+changes_none buys sets x wanted changes zeros j wants =
     let first = counted_sum-none buys sets (toggle x j) in
     let second = counted_sum-none buys sets x in
-    let here = zeros j below in
+    let here = zeros j wants in
     omega (arith, ints, first, second, here)
 
 -- ---- the worth

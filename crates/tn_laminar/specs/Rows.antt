@@ -1,5 +1,5 @@
 -- Sums of sets' numbers in which one that isn't listed can be told, so that single steps can be added to them.
-use Rattle.std.specs.Prelude.{◌≡◌, ℕ, zero, suc, ◌^◌, ◌<◌, ℤ, pos, neg_ℤ, ◌+ℤ◌, ◌-ℤ◌, int_le, if◌then◌else◌, List, get_or, Option, Some, None, slice_get}
+use Rattle.std.specs.Prelude.{◌≡◌, ℕ, zero, suc, ◌^◌, ◌<◌, ℤ, pos, neg_ℤ, ◌+ℤ◌, ◌-ℤ◌, int_le, if◌then◌else◌, true, List, get_or, Option, Some, None, slice_get}
 use Rattle.tn_base.specs.Firm.{net}
 use Rattle.tn_base.specs.Sets.{has, meet, toggle}
 use Rattle.tn_firm_laws.specs.Nested.{listed_from}
@@ -45,6 +45,7 @@ step_of buys x slope j = if has buys j then (if has x j then slope.down else slo
 abbrev pub counted_change : ℕ → List LaminarSet → ℕ → ℕ → ℕ → ℤ
 counted_change buys sets k x j = counted_sum buys sets k (toggle x j) -ℤ counted_sum buys sets k x
 
--- the same for each of n positions
+-- the same for each wanted position
 abbrev pub AreChanges : ℕ → List LaminarSet → ℕ → ℕ → ℕ → List ℤ → Type 0
-AreChanges buys sets k x n changes = (j : ℕ) → j < n → get_or changes j (pos 0) ≡ counted_change buys sets k x j
+AreChanges buys sets k x wanted changes = (j : ℕ) → has wanted j ≡ true
+    → get_or changes j (pos 0) ≡ counted_change buys sets k x j

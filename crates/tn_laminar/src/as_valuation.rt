@@ -47,7 +47,7 @@ impl Valuation for Laminar {
     ) {
         let amount = self.amount(x);
         let numbers = self.counted_numbers(x);
-        let changes = self.changes(x);
+        let changes = self.changes(x, wanted);
         for k in 0..self.trades {
             if wanted.has(k) {
                 steps.tick();

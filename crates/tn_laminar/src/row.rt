@@ -126,15 +126,15 @@ impl Laminar {
         }
     }
 
-    /// Adds to the change of each position what its toggle changes of the number of the set at place `k`.
-    fn add_changes(&self, x: Bundle, k: usize, changes: &mut [i128])
+    /// Adds to the change of each wanted position what its toggle changes of the number of the set at place `k`.
+    fn add_changes(&self, x: Bundle, wanted: Bundle, k: usize, changes: &mut [i128])
         requires place { k < length self.now.sets.items }
         requires room { self.now.trades ≤ length changes.old }
-        requires so_far { AreChanges self.now.buys self.now.sets.items k x self.now.trades changes.old }
-        ensures { AreChanges self.now.buys self.now.sets.items (k + 1) x self.now.trades changes.new }
+        requires so_far { AreChanges self.now.buys self.now.sets.items k x wanted changes.old }
+        ensures { AreChanges self.now.buys self.now.sets.items (k + 1) x wanted changes.new }
     {
         let slope = self.slope(x, k);
-        let mut rest = self.sets[k].members;
+        let mut rest = self.sets[k].members.meet(wanted);
         // Each turn takes a member out: so this ends.
         while rest != Bundle::empty() {
             let j = lowest(rest);
@@ -143,13 +143,14 @@ impl Laminar {
         }
     }
 
-    /// For each position, what its toggle changes of what the sets' numbers count.
-    pub(crate) fn changes(&self, x: Bundle) -> [i128; MOST_OWN]
-        ensures { AreChanges self.now.buys self.now.sets.items (length self.now.sets.items) x self.now.trades result }
+    /// For each wanted position, what its toggle changes of what the sets' numbers count.
+    pub(crate) fn changes(&self, x: Bundle, wanted: Bundle) -> [i128; MOST_OWN]
+        requires own { wanted < 2 ^ self.now.trades }
+        ensures { AreChanges self.now.buys self.now.sets.items (length self.now.sets.items) x wanted result }
     {
         let mut changes = [0; MOST_OWN];
         for k in 0..self.sets.len() {
-            self.add_changes(x, k, &mut changes);
+            self.add_changes(x, wanted, k, &mut changes);
         }
         changes
     }

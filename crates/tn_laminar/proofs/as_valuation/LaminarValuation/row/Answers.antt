@@ -21,7 +21,7 @@ overflow_add-numbers c =
     toggled_numbers c.args.self.now.buys c.args.self.now.sets.items c.args.x c.loop-k.k
     c.counted_numbers-numbers.result (get_or c.changes-changes.result c.loop-k.k (pos 0))
     is.numbered is.few_sets c.counted_numbers-numbers.ensures.sum
-    (c.changes-changes.ensures c.loop-k.k c.loop-k-test.true) in
+    (c.changes-changes.ensures c.loop-k.k (sym c.has.ensures ∙ c.if-has.true)) in
     let small = c.counted_numbers-numbers.ensures.small in
     let step = toggled.1 in
     let first : SFits w128 c.counted_numbers-numbers.result = search rules in
@@ -38,7 +38,7 @@ toggled_worth-requires-clause-numbers c =
     toggled_numbers c.args.self.now.buys c.args.self.now.sets.items c.args.x c.loop-k.k
     c.counted_numbers-numbers.result (get_or c.changes-changes.result c.loop-k.k (pos 0))
     is.numbered is.few_sets c.counted_numbers-numbers.ensures.sum
-    (c.changes-changes.ensures c.loop-k.k c.loop-k-test.true) in
+    (c.changes-changes.ensures c.loop-k.k (sym c.has.ensures ∙ c.if-has.true)) in
     let small = c.counted_numbers-numbers.ensures.small in
     let step = toggled.1 in
     let first : SFits w128 c.counted_numbers-numbers.result = search rules in

@@ -7,7 +7,7 @@ use Rattle.std.proofs.lemmas.Int.{to_z-of_z, ints}
 use Rattle.std.proofs.lemmas.Option.{slice_get_read, same_Some}
 use mir.Syntax.{w128}
 use mir.Val.{SFits}
-use Rattle.tn_base.specs.Sets.{size}
+use Rattle.tn_base.specs.Sets.{meet, size}
 use Rattle.tn_base.proofs.SizeLemmas.{size-toggle_out}
 use Rattle.tn_laminar.specs.declared.set.LaminarSet.{LaminarSet}
 use Rattle.tn_laminar.specs.Rows.{counted_change, step_of}
@@ -23,16 +23,14 @@ pub loop-x-init : goal.loop-x-init
 loop-x-init c = λ set is.
     let found = set_at c.args.self.now.sets.items c.args.k c.index.result.now c.requires.place c.index.ensures in
     let same : c.index.result.now ≡ set = same_Some _ _ (sym found ∙ is) in
-    subst (λ (members : ℕ). IsAdding c.args.self.now.buys c.args.self.now.sets.items c.args.k c.args.x
-    c.args.self.now.trades set.members members c.args.changes.now)
-    (sym (ap (λ (s : LaminarSet). s.members) same))
-    (adding_start c.args.self.now.buys c.args.self.now.sets.items c.args.k c.args.x c.args.self.now.trades set
-    c.args.changes.now is c.requires.so_far)
+    adding_start c.args.self.now.buys c.args.self.now.sets.items c.args.k c.args.x c.args.wanted set c.meet-rest.result
+    c.args.changes.now is
+    (c.meet-rest.ensures ∙ ap (λ (s : LaminarSet). meet s.members c.args.wanted) same) c.requires.so_far
 
 pub slice_copy_out-changes : goal.slice_copy_out-changes
 slice_copy_out-changes c =
     let found = set_at c.args.self.now.sets.items c.args.k c.index.result.now c.requires.place c.index.ensures in
-    let below = rest_own _ _ _ _ _ c.index.result.now _ _ _ c.args.self.now.laminar.own found
+    let below = rest_own _ _ _ _ _ _ c.index.result.now _ _ _ c.args.self.now.laminar.own found
     (c.loop-x.invariant c.index.result.now found) c.lowest-j.ensures.member in
     let room = c.requires.room in
     omega (arith, below, room, c.loop-x.auto.changes)
@@ -41,9 +39,9 @@ pub overflow_add-changes : goal.overflow_add-changes
 overflow_add-changes c =
     let found = set_at c.args.self.now.sets.items c.args.k c.index.result.now c.requires.place c.index.ensures in
     let adding = c.loop-x.invariant c.index.result.now found in
-    let below = rest_own _ _ _ _ _ c.index.result.now _ _ _ c.args.self.now.laminar.own found adding
+    let below = rest_own _ _ _ _ _ _ c.index.result.now _ _ _ c.args.self.now.laminar.own found adding
     c.lowest-j.ensures.member in
-    let here = rest_change _ _ _ _ _ c.index.result.now _ _ _ adding c.lowest-j.ensures.member below in
+    let here = rest_change _ _ _ _ _ c.index.result.now _ _ _ adding c.lowest-j.ensures.member in
     let step = c.step.ensures in
     let next = member_changes c.args.self.now.buys c.args.self.now.sets.items c.args.k c.args.x c.lowest-j.result
     c.index.result.now c.slope-slope.result found
@@ -65,7 +63,7 @@ overflow_add-changes c =
 pub bounds-changes-j : goal.bounds-changes-j
 bounds-changes-j c =
     let found = set_at c.args.self.now.sets.items c.args.k c.index.result.now c.requires.place c.index.ensures in
-    let below = rest_own _ _ _ _ _ c.index.result.now _ _ _ c.args.self.now.laminar.own found
+    let below = rest_own _ _ _ _ _ _ c.index.result.now _ _ _ c.args.self.now.laminar.own found
     (c.loop-x.invariant c.index.result.now found) c.lowest-j.ensures.member in
     let room = c.requires.room in
     omega (arith, below, room, c.loop-x.auto.changes)
@@ -81,8 +79,8 @@ loop-x-preserved c = λ set is.
     let adding = c.loop-x.invariant set is in
     let member = c.lowest-j.ensures.member in
     let slope = c.slope-slope.ensures.slope set is in
-    let below = rest_own _ _ _ _ _ set _ _ _ c.args.self.now.laminar.own is adding member in
-    let here = rest_change _ _ _ _ _ set _ _ _ adding member below in
+    let below = rest_own _ _ _ _ _ _ set _ _ _ c.args.self.now.laminar.own is adding member in
+    let here = rest_change _ _ _ _ _ set _ _ _ adding member in
     let step = c.step.ensures in
     let next = member_changes c.args.self.now.buys c.args.self.now.sets.items c.args.k c.args.x c.lowest-j.result set
     c.slope-slope.result is slope (adding.within c.lowest-j.result member) in
@@ -102,12 +100,12 @@ loop-x-preserved c = λ set is.
     ≡ counted_change c.args.self.now.buys c.args.self.now.sets.items c.args.k c.args.x c.lowest-j.result
     +ℤ step_of c.args.self.now.buys c.args.x c.slope-slope.result c.lowest-j.result =
     omega (arith, ints, here, step) in
-    let added = adding_more c.args.self.now.buys c.args.self.now.sets.items c.args.k c.args.x c.args.self.now.trades set
+    let added = adding_more c.args.self.now.buys c.args.self.now.sets.items c.args.k c.args.x c.args.wanted set
     c.slope-slope.result c.loop-x.rest c.lowest-j.result c.loop-x.changes is slope adding member
     (omega (arith, below, room, c.loop-x.auto.changes)) (get_or c.loop-x.changes c.lowest-j.result (pos 0)
     +ℤ c.step.result) sum in
     let moved = subst (λ (rest : ℕ). IsAdding c.args.self.now.buys c.args.self.now.sets.items c.args.k c.args.x
-    c.args.self.now.trades set.members rest
+    c.args.wanted set.members rest
     (put c.loop-x.changes c.lowest-j.result (get_or c.loop-x.changes c.lowest-j.result (pos 0) +ℤ c.step.result)))
     (sym c.toggle-rest.ensures) added in
     simp to_z-of_z moved
@@ -120,6 +118,6 @@ returns c =
       | inl e ↦ eqb-true _ _ e ∙ c.empty.ensures
       | inr d ↦ absurd (let off = c.loop-x-test.false in let is = c.ne.ensures ∙ ap not d in cc (off, is))
     ] in
-    adding_end c.args.self.now.buys c.args.self.now.sets.items c.args.k c.args.x c.args.self.now.trades
+    adding_end c.args.self.now.buys c.args.self.now.sets.items c.args.k c.args.x c.args.wanted
     c.index.result.now.members c.loop-x.rest c.loop-x.changes
     (c.loop-x.invariant c.index.result.now found) none

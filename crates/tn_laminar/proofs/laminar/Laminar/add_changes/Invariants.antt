@@ -8,7 +8,7 @@ use Rattle.tn_laminar.proofs.laminar.Laminar.add_changes.Given as goal
 
 abbrev pub invariant-loop-x : goal.invariant-loop-x
 invariant-loop-x l = (set : LaminarSet) → slice_get l.self.sets.items l.k ≡ Some set
-    → IsAdding l.self.buys l.self.sets.items l.k l.x l.self.trades set.members l.rest l.changes
+    → IsAdding l.self.buys l.self.sets.items l.k l.x l.fn.wanted set.members l.rest l.changes
 
 abbrev pub decreases-loop-x : goal.decreases-loop-x
 decreases-loop-x l = size l.rest
