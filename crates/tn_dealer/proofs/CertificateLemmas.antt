@@ -9,6 +9,8 @@ use mir.Val.{SFits, of_z, to_z}
 use Rattle.tn_base.specs.Arcs.{IsAtMost}
 use Rattle.tn_base.specs.Sets.{has, toggle, meet, minus, sum_over}
 use Rattle.tn_base.proofs.SetLemmas.{has-meet, has-minus, has-toggle_same, has-toggle_other, toggle-toggle, toggle_comm}
+use Rattle.tn_base.specs.Firm.{net}
+use Rattle.tn_base.proofs.FirmLemmas.{net-zero, net-toggle_buy_out, net-toggle_sell_out}
 use Rattle.tn_base.proofs.SizeLemmas.{size_le}
 use Rattle.tn_base.proofs.SumLemmas.{sum_over-empty, sum_over-toggle_out}
 use Rattle.tn_market.specs.Reduced.{greater}
@@ -123,6 +125,34 @@ shows_none count buys number pairs own x more keeps = by (matched_worth pairs x)
     by None e = sym e
     by (Some a) e = absurd (let most = weak_duality count buys false number pairs own x a e keeps in
         omega (arith, ints, most, more))
+
+-- ---- even bundles
+
+-- a possible bundle has as many purchases as sales
+even : (count buys : ℕ) (pairs : List Pair) → AreOwnPairs count buys pairs → (x : ℕ) (a : ℤ)
+    → matched_worth pairs x ≡ Some a → net buys x ≡ pos 0
+even count buys [] own x a is = ap (net buys) (matched_none x a is).0 ∙ net-zero buys
+even count buys (pair ∷ pairs) own x a is = elim (matched_from pair pairs x a is) [
+  | inl p ↦ even count buys pairs (own_rest count buys pair pairs own) x a p
+  | inr q ↦
+      let here = own 0 pair refl in
+      let apart : pair.sell ≢ pair.buy = λ e. false≢true (sym here.sold ∙ ap (has buys) e ∙ here.bought) in
+      let one = net-toggle_buy_out buys x pair.buy here.bought q.has_buy in
+      let two = net-toggle_sell_out buys (toggle x pair.buy) pair.sell here.sold
+      (has-toggle_other x pair.buy pair.sell apart ∙ q.has_sell) in
+      let rest = even count buys pairs (own_rest count buys pair pairs own) (toggle (toggle x pair.buy) pair.sell)
+      q.value q.is in
+      omega (arith, ints, one, two, rest)
+]
+
+-- so a bundle of another net count is impossible
+pub shows_uneven : (count buys : ℕ) (pairs : List Pair) → AreOwnPairs count buys pairs → (x : ℕ)
+    → (net buys x ≡ pos 0 → ⊥) → None ≡ matched_worth pairs x
+shows_uneven count buys pairs own x uneven = by (matched_worth pairs x) refl
+  where
+    by : (o : Option ℤ) → matched_worth pairs x ≡ o → None ≡ matched_worth pairs x
+    by None e = sym e
+    by (Some a) e = absurd (uneven (even count buys pairs own x a e))
 
 -- ---- pairs that are taken in
 

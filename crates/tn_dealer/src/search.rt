@@ -62,15 +62,13 @@ pub(crate) struct Spare<'a> {
     reach: Reach,
 }
 
-/// A certificate for the bundle `x` of a firm that has so many trades and buys `buys`.
+/// A certificate for the bundle `x`, which has as many purchases as sales, of a firm that has so many trades and buys
+/// `buys`.
 pub(crate) fn search(costs: &[i32; CELLS], trades: usize, x: Bundle, buys: Bundle) -> Certificate
     requires { trades ≤ most_own }
 {
     let purchases = x.meet(buys);
     let sales = x.minus(buys);
-    if purchases.count() != sales.count() {
-        return uneven(trades, x, buys);
-    }
     let mut matching = Matching::new(costs, trades, false);
     for b in 0..trades {
         if purchases.has(b as u32) {
@@ -80,19 +78,6 @@ pub(crate) fn search(costs: &[i32; CELLS], trades: usize, x: Bundle, buys: Bundl
         }
     }
     matching.certificate()
-}
-
-/// A certificate for a bundle that has more trades of one side than of the other.
-fn uneven(trades: usize, x: Bundle, buys: Bundle) -> Certificate
-    requires { trades ≤ most_own }
-{
-    let purchases = x.meet(buys);
-    let sales = x.minus(buys);
-    if purchases.count() < sales.count() {
-        unmatched(trades, sales, purchases)
-    } else {
-        unmatched(trades, purchases, sales)
-    }
 }
 
 /// More trades of one side than those of the other that they can be matched with.

@@ -18,11 +18,21 @@ use crate::search::{Certificate, Spare, search};
 use tn_base::Bundle;
 
 impl Dealer {
+    /// Whether a bundle has as many purchases as sales: any other is impossible.
+    fn is_even(&self, x: Bundle) -> bool
+        ensures { result ≡ false → None ≡ matched_worth self.now.pairs.items x }
+    {
+        x.net(self.buys) == 0
+    }
+
     /// What a bundle of own trades is worth, None where it is impossible.
     pub(crate) fn worth(&self, costs: &[i32; CELLS], x: Bundle) -> Option<i128>
         requires costs { AreCosts self.now.pairs.items costs.now }
         ensures { result ≡ matched_worth self.now.pairs.items x }
     {
+        if !self.is_even(x) {
+            return None;
+        }
         match self.shown(costs, x, &search(costs, self.trades as usize, x, self.buys)) {
             Some(worth) => worth,
             None => self.worth_from(0, x),
@@ -42,6 +52,9 @@ impl Dealer {
         ensures { result ≡ matched_worth self.now.pairs.items (toggle x k) }
     {
         let toggled = x.toggle(k);
+        if !self.is_even(toggled) {
+            return None;
+        }
         if let Some(spare) = spare {
             if let Some(worth) = self.shown(costs, toggled, &spare.toggled(k as usize)) {
                 return worth;
