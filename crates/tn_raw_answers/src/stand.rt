@@ -1,8 +1,8 @@
 //! How a firm stands with what it has.
 
-ghost use Rattle.std.specs.Prelude.{◌≡◌, ◌⊎◌, Some, ◌^◌, ◌<◌, ◌≤◌, All, length};
+ghost use Rattle.std.specs.Prelude.{◌≡◌, ◌⊎◌, Some, ◌^◌, ◌<◌, ◌≤◌, pos, All, length};
 ghost use Rattle.tn_base.specs.Arcs.{IsAtMost};
-ghost use Rattle.tn_base.specs.Firm.{utility};
+ghost use Rattle.tn_base.specs.Firm.{IsBest, utility};
 ghost use Rattle.tn_exchange.specs.Rows.{firm_of_table};
 ghost use Rattle.tn_firm.specs.Raw.{raw_firm_of};
 ghost use Rattle.tn_raw_answers.specs.Stands.{IsStandAtPrices};
@@ -12,10 +12,10 @@ ghost use Rattle.tn_model.specs.Prices.{price_at};
 
 use crate::found::Found;
 use crate::table::{best_of_table, table_utility};
-use tn_base::Bundle;
+use tn_base::{Asked, Bundle, Steps};
 use tn_exchange::RawTable;
 use tn_firm::RawFirm;
-use tn_market::{Oracle, utility_of, worth_of};
+use tn_market::{Oracle, is_best_by_step, utility_of, worth_of};
 use tn_price::greatest;
 
 /// How a firm stands with its own bundle at the prices of its positions.
@@ -63,6 +63,30 @@ fn stand_of_table(table: &RawTable, own: Bundle, prices: &[i128]) -> Stand
     stand_beside(own, worth, utility, best_of_table(table, prices))
 }
 
+/// A best bundle of a firm that finds one itself: its own, which has this utility, where that is best. That is tried
+/// first, since one step of the search tells it.
+fn best_of_oracle<V: Oracle>(
+    firm: &V,
+    own: Bundle,
+    own_utility: Option<i128>,
+    prices: &[i128],
+) -> Found
+    requires priced { length prices.now ≡ (V.firm firm.now).count }
+    requires small { All (λ p. IsAtMost p most_asked_price) prices.now }
+    requires few_trades { (V.firm firm.now).count ≤ most_own }
+    requires small_worths { V.limit firm.now ≤ most_worth }
+    requires utility { own_utility ≡ utility (pos 1) (price_at prices.now) (V.firm firm.now) own }
+    ensures { IsBest (utility (pos 1) (price_at prices.now) (V.firm firm.now)) result.bundle result.value }
+{
+    if let Some(value) = own_utility {
+        if is_best_by_step(firm, own, 1, prices, &mut Steps::new(Asked)) {
+            return Found { bundle: own, value };
+        }
+    }
+    let (bundle, value) = greatest(firm, 1, prices);
+    Found { bundle, value }
+}
+
 /// How a firm stands that finds a best bundle itself.
 fn stand_of_oracle<V: Oracle>(firm: &V, own: Bundle, prices: &[i128]) -> Stand
     requires own { own < 2 ^ (V.firm firm.now).count }
@@ -74,8 +98,12 @@ fn stand_of_oracle<V: Oracle>(firm: &V, own: Bundle, prices: &[i128]) -> Stand
 {
     let worth = worth_of(firm, own);
     let utility = utility_of(firm, own, 1, prices);
-    let (bundle, value) = greatest(firm, 1, prices);
-    stand_beside(own, worth, utility, Found { bundle, value })
+    stand_beside(
+        own,
+        worth,
+        utility,
+        best_of_oracle(firm, own, utility, prices),
+    )
 }
 
 /// How a firm stands with its own bundle, whether it meets exchange or not: a best bundle is best of all its bundles.
