@@ -29,7 +29,7 @@ use Rattle.tn_network_laws.proofs.EachLemmas.{each_within, meet_all, same_prices
 use Rattle.tn_network_laws.proofs.SupportLemmas.{arcs_small}
 use Rattle.tn_outcome_laws.specs.Fixed.{lesser, fixed_at, fixed_arc, fixing_arc, IsPossibleOutcome}
 use Rattle.tn_outcome_laws.proofs.FixedLemmas.{completion_is_fixed_labels, null_unsigned}
-use Rattle.tn_outcome_laws.proofs.SignedLemmas.{agreed_price}
+use Rattle.tn_outcome_laws.proofs.SignedLemmas.{agreed_price, signed_within}
 use Rattle.tn_residual.specs.Held.{contract_price}
 use Rattle.tn_residual.proofs.HeldLemmas.{price_some}
 use Rattle.tn_residual.proofs.MakingLemmas.{outcome_feasible}
@@ -64,6 +64,16 @@ pub record ArePricedBelow (contracts : List Contract) (v : ℕ) (prices : List (
   pub counted : length prices ≡ v
   pub each : (i : ℕ) → i < v → price_in prices i ≡ contract_price contracts i
 
+-- null has no contract
+no_contract : (trades : List Ends) (over : ℤ) (contracts : List Contract) → IsOutcomeOf trades over contracts
+    → (null : ℕ) → null ≡ length trades → contract_price contracts null ≡ None
+no_contract trades over contracts outcome null null_is = by_case (is_signed contracts null) refl
+  where
+    by_case : (b : Bool) → is_signed contracts null ≡ b → contract_price contracts null ≡ None
+    by_case true there = absurd (let below = signed_within trades contracts (outcome_feasible trades over contracts outcome)
+        null there in omega (arith, below, null_is))
+    by_case false there = ap (λ (b : Bool). if b then Some (signed_price contracts null) else None) there
+
 -- a graph with such prices can be fixed
 pub can_be_fixed : {V : Type 0} (firm_of : V → Firm) (limit_of : V
     → ℕ) (market : Traded V) (over : ℤ) (contracts : List Contract) → IsNetwork (map firm_of market.firms) market.trades
@@ -75,6 +85,8 @@ pub can_be_fixed : {V : Type 0} (firm_of : V → Firm) (limit_of : V
 can_be_fixed firm_of limit_of market over contracts network within limits outcome on graph is null null_is prices
     priced = record {
       nodes = (let nodes = is.nodes in omega (arith, nodes, null_is));
+      laid = is.laid_out.all ∙ sym null_is;
+      free = priced.each null ∙ no_contract market.trades over contracts outcome null null_is;
       counted = priced.counted;
       small_costs = small_graph (exchange_arc (map firm_of market.firms) market.trades on) most_exchange_cost graph
           (arcs_small (map firm_of market.firms) market.trades network most_worth on

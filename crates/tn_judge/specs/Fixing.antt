@@ -32,9 +32,11 @@ pub record ArePriced (contracts : List Contract) (nodes : ℕ) (prices : List (O
   pub counted : length prices ≡ nodes
   pub each : (v : ℕ) → price_in prices v ≡ contract_price contracts v
 
--- a graph, a denominator and prices within the limits, with null as the last node
+-- a graph that is laid out, a denominator and prices within the limits, with null as the last node, which has no price
 pub record CanBeFixed (graph : CostBlocks) (over : ℤ) (null : ℕ) (prices : List (Option ℤ)) : Type 0 where
   pub nodes : graph.nodes ≡ null + 1
+  pub laid : graph.places.laid ≡ null
+  pub free : price_in prices null ≡ None
   pub counted : length prices ≡ null + 1
   pub small_costs : AreSmall (arcs_of graph) most_exchange_cost
   pub from_one : pos 1 ≤ℤ over

@@ -1,18 +1,19 @@
--- What the impl for the fixed graph needs: arcs between nodes, and small costs.
-use Rattle.std.specs.Prelude.{◌≡◌, ℕ, ◌+◌, ◌*◌, ◌<◌, ℤ, pos, ◌+ℤ◌, ◌-ℤ◌, ◌*ℤ◌, ◌≤ℤ◌, List, length, Option, Some, None}
-use Rattle.std.proofs.Common.{subst, inl, inr, arith}
+-- What the impl for the fixed graph needs: arcs between nodes, small costs, and nodes listed as the graph lists them.
+use Rattle.std.specs.Prelude.{◌≡◌, ℕ, ◌+◌, ◌*◌, ◌<◌, ℤ, pos, neg_ℤ, ◌+ℤ◌, ◌-ℤ◌, ◌*ℤ◌, ◌≤ℤ◌, ◌⊎◌, Bool, true, false, ◌==◌, if◌then◌else◌, List, length, Option, Some, None, option_map}
+use Rattle.std.proofs.Common.{refl, sym, ap, ◌∙◌, subst, inl, inr, arith}
 use Rattle.std.proofs.lemmas.Int.{ints}
-use Rattle.std.proofs.lemmas.Bool.{cases_lt}
+use Rattle.std.proofs.lemmas.Bool.{cases_eq, cases_lt, eqb-true}
 use Rattle.std.proofs.lemmas.List.{get_or_past}
-use Rattle.tn_base.specs.Arcs.{IsAtMost, AreBetweenNodes, AreSmall}
+use Rattle.tn_base.specs.Arcs.{IsAtMost, AreBetweenNodes, AreSmall, ListsPredecessors, ListsSuccessors}
 use Rattle.tn_base.specs.Widths.{most_cost}
 use Rattle.tn_firm_laws.proofs.BoundLemmas.{times_small}
 use Rattle.tn_firm_laws.proofs.KeepLemmas.{option_map-some}
 use Rattle.tn_model.specs.Limits.{most_numerator, most_over}
-use Rattle.tn_graph.specs.Blocks.{CostBlocks, arcs_of}
-use Rattle.tn_graph.specs.BlockLemmas.{arcs_of-between}
-use Rattle.tn_outcome_laws.specs.Fixed.{fixed_at}
+use Rattle.tn_graph.specs.Blocks.{CostBlocks, arcs_of, listed_count, listed_at}
+use Rattle.tn_graph.specs.BlockLemmas.{arcs_of-between, arcs_of-predecessors, arcs_of-successors}
+use Rattle.tn_outcome_laws.specs.Fixed.{fixed_at, fixing_arc, lesser}
 use Rattle.tn_outcome_laws.proofs.FixedLemmas.{between-fixed_at, small-fixed_at}
+use Rattle.tn_chain.proofs.ListedLemmas.{lists_null, lists_all}
 use Rattle.tn_judge.specs.Limits.{most_exchange_cost, most_fixed_cost}
 use Rattle.tn_judge.specs.Fixing.{price_in, height, raised_fixed, CanBeFixed}
 
@@ -87,3 +88,87 @@ raised_between graph over null prices fits u v cost is =
     between-fixed_at (null + 1) over (price_in prices) null (arcs_of graph)
     (λ a b c there. subst (λ (n : ℕ). (a < n) × (b < n)) fits.nodes (arcs_of-between graph a b c there)) (omega arith)
     (priced_within (null + 1) prices fits.counted) u v found.0 found.1
+
+-- ---- lists of nodes
+
+-- an arc between null and a trade
+abbrev IsBesideNull : ℕ → ℕ → ℕ → Type 0
+IsBesideNull null u v = ((u ≡ null) × (v < null)) ⊎ ((v ≡ null) × (u < null))
+
+-- an arc is one of the graph, or one between null and a trade
+from_graph : (graph : CostBlocks) (over : ℤ) (null : ℕ) (prices : List (Option ℤ)) → CanBeFixed graph over null prices
+    → (u v : ℕ) (cost : ℤ) → raised_fixed over prices null (arcs_of graph) u v ≡ Some cost
+    → ((z : ℤ) × (arcs_of graph u v ≡ Some z)) ⊎ IsBesideNull null u v
+from_graph graph over null prices fits u v cost is =
+    let found = option_map-some (λ c. (c +ℤ height (price_in prices v)) -ℤ height (price_in prices u))
+    (fixed_at over (price_in prices) null (arcs_of graph) u v) cost is in
+    by_arc (arcs_of graph u v) refl found.0 found.1
+  where
+    -- only trades have prices
+    is_trade : (t : ℕ) (p : ℤ) → price_in prices t ≡ Some p → t < null
+    is_trade t p there = elim (cases_eq t null) [
+      | inl e ↦ absurd (let none = ap (price_in prices) e ∙ fits.free in cc (none, there))
+      | inr d ↦ (let below = priced_within (null + 1) prices fits.counted t p there in omega (arith, below, d))
+    ]
+
+    by_test : (a b : Bool) → (u == null) ≡ a → (v == null) ≡ b → (c : ℤ)
+        → (if a then price_in prices v else (if b then option_map neg_ℤ (price_in prices u) else None)) ≡ Some c
+        → IsBesideNull null u v
+    by_test true b a_is b_is c e = inl (eqb-true u null a_is, is_trade v c e)
+    by_test false true a_is b_is c e =
+        let price = option_map-some neg_ℤ (price_in prices u) c e in
+        inr (eqb-true v null b_is, is_trade u price.0 price.1)
+    by_test false false a_is b_is c e = absurd (cc e)
+
+    by_arc : (o : Option ℤ) → arcs_of graph u v ≡ o → (c : ℤ)
+        → fixed_at over (price_in prices) null (arcs_of graph) u v ≡ Some c
+        → ((z : ℤ) × (arcs_of graph u v ≡ Some z)) ⊎ IsBesideNull null u v
+    by_arc (Some z) there c e = inl (z, there)
+    by_arc None there c e = inr (by_test (u == null) (v == null) refl refl c
+        (sym (ap (λ (o : Option ℤ). lesser (option_map (λ cost. over *ℤ cost) o)
+        (fixing_arc (price_in prices) null u v)) there) ∙ e))
+
+-- the nodes of a block are those from which an arc may lead to a node
+pub fixed_predecessors : (graph : CostBlocks) (over : ℤ) (null : ℕ) (prices : List (Option ℤ))
+    → CanBeFixed graph over null prices → (b : ℕ) → b < null + 1
+    → ListsPredecessors (null + 1) (raised_fixed over prices null (arcs_of graph)) b
+    (listed_count graph.places false b) (listed_at graph.places false b)
+fixed_predecessors graph over null prices fits b within =
+    let nodes = fits.nodes in
+    let laid = fits.laid in
+    let lists = arcs_of-predecessors graph b (omega (arith, within, nodes)) in
+    record {
+      inside = λ k below. (let inside = lists.inside k below in omega (arith, inside, nodes));
+      all = λ a cost is. elim (from_graph graph over null prices fits a b cost is) [
+        | inl arc ↦ lists.all a arc.0 arc.1
+        | inr beside ↦ elim beside [
+          | inl from ↦ lists_null graph false b (let below = from.1 in omega (arith, below, laid)) a
+              (from.0 ∙ sym laid)
+          | inr to ↦ lists_all graph false b a (let null_is = to.0 in omega (arith, null_is, laid))
+              (let below = to.1 in omega (arith, below, laid))
+        ]
+      ];
+      once = lists.once;
+    }
+
+-- and those to which one may lead from it
+pub fixed_successors : (graph : CostBlocks) (over : ℤ) (null : ℕ) (prices : List (Option ℤ))
+    → CanBeFixed graph over null prices → (a : ℕ) → a < null + 1
+    → ListsSuccessors (null + 1) (raised_fixed over prices null (arcs_of graph)) a
+    (listed_count graph.places true a) (listed_at graph.places true a)
+fixed_successors graph over null prices fits a within =
+    let nodes = fits.nodes in
+    let laid = fits.laid in
+    let lists = arcs_of-successors graph a (omega (arith, within, nodes)) in
+    record {
+      inside = λ k below. (let inside = lists.inside k below in omega (arith, inside, nodes));
+      all = λ b cost is. elim (from_graph graph over null prices fits a b cost is) [
+        | inl arc ↦ lists.all b arc.0 arc.1
+        | inr beside ↦ elim beside [
+          | inl from ↦ lists_all graph true a b (let null_is = from.0 in omega (arith, null_is, laid))
+              (let below = from.1 in omega (arith, below, laid))
+          | inr to ↦ lists_null graph true a (let below = to.1 in omega (arith, below, laid)) b (to.0 ∙ sym laid)
+        ]
+      ];
+      once = lists.once;
+    }

@@ -1,11 +1,10 @@
 //! The exchange graph of an outcome's signed trades, with their prices fixed.
 
-ghost use Rattle.std.specs.Prelude.{◌≡◌, ◌+◌, ◌*◌, ◌≤◌, ◌<◌, ◌+ℤ◌, ◌-ℤ◌, ◌*ℤ◌, ◌≤ℤ◌, pos, neg_ℤ, IfSome, option_map};
-ghost use Rattle.tn_base.specs.ArcLemmas.{lists_all_predecessors, lists_all_successors};
+ghost use Rattle.std.specs.Prelude.{◌≡◌, ◌+◌, ◌*◌, ◌≤◌, ◌<◌, ◌+ℤ◌, ◌-ℤ◌, ◌*ℤ◌, ◌≤ℤ◌, pos, neg_ℤ, IfSome, option_map, false, true};
 ghost use Rattle.tn_base.specs.Arcs.{IsAtMost};
-ghost use Rattle.tn_graph.specs.Blocks.{arcs_of};
+ghost use Rattle.tn_graph.specs.Blocks.{arcs_of, listed_at, listed_count};
 ghost use Rattle.tn_judge.specs.Fixing.{CanBeFixed, height, price_in, raised_fixed};
-ghost use Rattle.tn_judge.specs.FixingLemmas.{raised_between, raised_within};
+ghost use Rattle.tn_judge.specs.FixingLemmas.{fixed_predecessors, fixed_successors, raised_between, raised_within};
 ghost use Rattle.tn_judge.specs.Limits.{most_exchange_cost};
 ghost use Rattle.tn_outcome_laws.specs.Fixed.{fixing_arc, fixed_at, lesser};
 ghost use Rattle.tn_model.specs.Limits.{most_numerator, most_over};
@@ -20,7 +19,8 @@ const HEIGHT: i128 = 100_000_000_000;
 /// node at the price, and one back at minus it. Beside that such nodes are raised: an arc to one costs so much
 /// more, and an arc from one so much less. Closed walks cost what they cost; but no least walk to any node need end
 /// at a raised one, since null is one step further and costs no more. So the labels of the other nodes are those of
-/// walks that end at one of them.
+/// walks that end at one of them. The graph is laid out, so it lists null beside each trade, and each trade beside null:
+/// its lists have the arcs that fix prices, too.
 #[derive(Drop)]
 pub struct Fixed<'a> {
     pub graph: &'a Graph,
@@ -132,13 +132,13 @@ impl Costs for Fixed<'_> {
 
     ghost arc = { λ it. raised_fixed it.over it.prices.now it.null (arcs_of it.graph.now) };
 
-    ghost predecessor_count = { λ it b. it.null + 1 };
+    ghost predecessor_count = { λ it b. listed_count it.graph.now.places false b };
 
-    ghost predecessor_at = { λ it b k. k };
+    ghost predecessor_at = { λ it b k. listed_at it.graph.now.places false b k };
 
-    ghost successor_count = { λ it a. it.null + 1 };
+    ghost successor_count = { λ it a. listed_count it.graph.now.places true a };
 
-    ghost successor_at = { λ it a k. k };
+    ghost successor_at = { λ it a k. listed_at it.graph.now.places true a k };
 
     fn nodes(&self) -> u32 {
         self.graph.size()
@@ -152,30 +152,28 @@ impl Costs for Fixed<'_> {
     }
 
     fn predecessors(&self, b: u32) -> u32 {
-        self.graph.size()
+        self.graph.predecessors(b)
     }
 
     fn predecessor(&self, b: u32, k: u32) -> u32 {
-        k
+        self.graph.predecessor(b, k)
     }
 
     fn successors(&self, a: u32) -> u32 {
-        self.graph.size()
+        self.graph.successors(a)
     }
 
     fn successor(&self, a: u32, k: u32) -> u32 {
-        k
+        self.graph.successor(a, k)
     }
 
     ghost between_nodes = { λ it. raised_between it.graph.now it.over it.null it.prices.now it.fits };
 
     ghost small = { λ it. raised_within it.graph.now it.over it.null it.prices.now it.fits };
 
-    ghost lists_predecessors = { λ it b inside. lists_all_predecessors (it.null + 1)
-        (raised_fixed it.over it.prices.now it.null (arcs_of it.graph.now))
-        (raised_between it.graph.now it.over it.null it.prices.now it.fits) b };
+    ghost lists_predecessors = { λ it b inside. fixed_predecessors it.graph.now it.over it.null it.prices.now it.fits b
+        inside };
 
-    ghost lists_successors = { λ it a inside. lists_all_successors (it.null + 1)
-        (raised_fixed it.over it.prices.now it.null (arcs_of it.graph.now))
-        (raised_between it.graph.now it.over it.null it.prices.now it.fits) a };
+    ghost lists_successors = { λ it a inside. fixed_successors it.graph.now it.over it.null it.prices.now it.fits a
+        inside };
 }
