@@ -3,3 +3,4 @@ pub mod MatchingLemmas
 pub mod RepeatLemmas
 pub mod CertificateLemmas
 pub mod CostLemmas
+pub mod PathLemmas

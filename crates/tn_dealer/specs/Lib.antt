@@ -8,3 +8,4 @@ pub mod WithinLemmas
 pub mod LawLemmas
 pub mod Certificates
 pub mod Costs
+pub mod Paths

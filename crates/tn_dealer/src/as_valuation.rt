@@ -5,7 +5,6 @@ ghost use Rattle.tn_dealer.specs.Firms.{firm_of};
 ghost use Rattle.tn_dealer.specs.LawLemmas.{dealer_laws};
 
 use crate::dealer::Dealer;
-use crate::search::Spare;
 use tn_base::{Asked, Bundle, Side, Steps};
 use tn_market::{MOST_WORTH, Oracle, Valuation};
 
@@ -45,7 +44,7 @@ impl Valuation for Dealer {
         steps: &mut Steps<Asked>,
     ) {
         let costs = self.costs();
-        let spare = Spare::of(&costs, self.trades as usize, x, self.buys, wanted);
+        let spare = self.spare(&costs, x, wanted);
         for k in 0..self.trades {
             if wanted.has(k) {
                 steps.tick();

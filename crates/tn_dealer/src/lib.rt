@@ -9,6 +9,7 @@ mod laws;
 mod outline;
 mod pair;
 mod repeated;
+mod row;
 mod search;
 mod worth;
 

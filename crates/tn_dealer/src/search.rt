@@ -6,6 +6,7 @@ ghost use Rattle.std.specs.Prelude.{◌<◌, ◌≤◌, IfSome};
 ghost use Rattle.tn_market.specs.Widths.{most_own};
 
 use crate::costs::{CELLS, POSITIONS, UNLISTED, place};
+use crate::row::PathNumbers;
 use tn_base::Bundle;
 
 /// The mate of a trade that has none.
@@ -14,6 +15,18 @@ const NONE: usize = POSITIONS;
 /// How far a trade is that isn't reached.
 const FAR: i64 = i64::MAX;
 
+/// How far that is in numbers: farther than any costs sum to, and so little that no sum of numbers wraps.
+const UNREACHED: i64 = 1 << 60;
+
+/// Who is matched with whom.
+#[derive(Clone, Copy)]
+pub(crate) struct Mates {
+    /// The first side are the purchases, or the sales.
+    by_sale: bool,
+    /// For each trade of the second side that of the first.
+    mates: [usize; POSITIONS],
+}
+
 /// What the search found. Where all trades are matched, `mates` has a trade of the first side for each trade of the
 /// second side, and two numbers sum to at most the cost of a pair. Otherwise two numbers sum to at most 0 where a pair
 /// is listed, and those of all trades to more.
@@ -21,9 +34,14 @@ const FAR: i64 = i64::MAX;
 pub(crate) struct Certificate {
     pub(crate) matched: bool,
     pub(crate) numbers: [i64; POSITIONS],
-    /// The first side are the purchases, or the sales.
-    pub(crate) by_sale: bool,
-    pub(crate) mates: [usize; POSITIONS],
+    pub(crate) mates: Mates,
+}
+
+/// The path by which a toggled bundle is matched: how long it is, and who is matched with whom after it.
+#[derive(Drop)]
+pub(crate) struct Path {
+    pub(crate) distance: i64,
+    pub(crate) mates: Mates,
 }
 
 /// The matching so far, with a number for each position (a potential).
@@ -56,6 +74,7 @@ struct Reach {
 /// matching along one path.
 #[derive(Drop)]
 pub(crate) struct Spare<'a> {
+    pub(crate) numbers: PathNumbers,
     firsts: Bundle,
     left: usize,
     matching: Matching<'a>,
@@ -96,12 +115,14 @@ fn unmatched(trades: usize, more: Bundle, fewer: Bundle) -> Certificate
     Certificate {
         matched: false,
         numbers,
-        by_sale: false,
-        mates: [NONE; POSITIONS],
+        mates: Mates {
+            by_sale: false,
+            mates: [NONE; POSITIONS],
+        },
     }
 }
 
-impl Certificate {
+impl Mates {
     /// The purchase and the sale of the pair that a position of the second side is matched in; where it has no mate,
     /// one of them is no position.
     pub(crate) fn pair_at(&self, k: usize) -> (usize, usize)
@@ -174,9 +195,33 @@ impl<'a> Matching<'a> {
         Certificate {
             matched: true,
             numbers: self.numbers,
+            mates: self.paired(),
+        }
+    }
+
+    /// Who is matched with whom.
+    fn paired(&self) -> Mates {
+        Mates {
             by_sale: self.by_sale,
             mates: self.mates,
         }
+    }
+
+    /// The numbers after a path that is longer than all others, of the firm's trades: those of the second side have
+    /// risen by how far they are, and those of the first side have fallen as much as their mates' have risen.
+    fn far(&self, reach: &Reach, seconds: Bundle) -> [i64; POSITIONS] {
+        let mut far = self.numbers;
+        for s in 0..self.trades {
+            if seconds.has(s as u32) {
+                let distance = reach.distances[s].min(UNREACHED);
+                far[s] = far[s].wrapping_add(distance);
+                let first = self.mates[s];
+                if first < POSITIONS {
+                    far[first] = far[first].wrapping_sub(distance);
+                }
+            }
+        }
+        far
     }
 
     /// The certificate of a bundle that has more trades of the first side than those of the second that can be reached
@@ -208,6 +253,22 @@ impl<'a> Matching<'a> {
             }
         }
         self.numbers[second] = if number < FAR { number } else { 0 };
+    }
+
+    /// Gives a trade of the first side the highest number that exceeds no cost with these of the second.
+    fn raise(&mut self, first: usize, seconds: Bundle)
+        requires { first < most_own }
+    {
+        let mut number = FAR;
+        for second in 0..self.trades {
+            if seconds.has(second as u32) {
+                let cost = self.cost(first, second);
+                if cost < UNLISTED {
+                    number = number.min(i64::from(cost).wrapping_sub(self.numbers[second]));
+                }
+            }
+        }
+        self.numbers[first] = if number < FAR { number } else { 0 };
     }
 
     /// Matches one trade of the first side more, with one of the second side more. Where that can't be, it hands back
@@ -366,8 +427,19 @@ impl<'a> Spare<'a> {
                 matching.admit(k, firsts);
             }
         }
-        let reach = matching.reach(left, seconds.union(others));
+        let seconds = seconds.union(others);
+        if left < POSITIONS {
+            matching.raise(left, seconds);
+        }
+        let reach = matching.reach(left, seconds);
+        let numbers = PathNumbers {
+            within: firsts.union(seconds),
+            bought_rise: matching.by_sale,
+            near: matching.numbers,
+            far: matching.far(&reach, seconds),
+        };
         Some(Spare {
+            numbers,
             firsts,
             left,
             matching,
@@ -375,26 +447,28 @@ impl<'a> Spare<'a> {
         })
     }
 
-    /// A certificate for the bundle with position `k` toggled, which is one of the first side in the bundle, or one of
-    /// the second that was wanted.
-    pub(crate) fn toggled(&self, k: usize) -> Certificate
+    /// The path for the bundle with position `k` toggled, which is one of the first side in the bundle, or one of the
+    /// second that was wanted.
+    pub(crate) fn toggled(&self, k: usize) -> Path
         requires { k < most_own }
     {
-        if k == self.left {
-            return self.matching.certificate();
-        }
-        let end = if self.firsts.has(k as u32) {
+        let end = if self.firsts.has(k as u32) && k != self.left {
             self.matching.mated[k] % POSITIONS
         } else {
             k
         };
         let distance = self.reach.distances[end];
-        if distance == FAR {
-            return self.matching.unmatched(self.left % POSITIONS, &self.reach);
+        if k == self.left || distance == FAR {
+            return Path {
+                distance: if k == self.left { 0 } else { UNREACHED },
+                mates: self.matching.paired(),
+            };
         }
         let mut matching = self.matching;
-        matching.shift(&self.reach, self.left % POSITIONS, distance);
         matching.rematch(&self.reach, end);
-        matching.certificate()
+        Path {
+            distance,
+            mates: matching.paired(),
+        }
     }
 }

@@ -3,7 +3,7 @@
 
 ghost use Rattle.std.specs.Prelude.{◌≡◌, ◌+◌, ◌*◌, ◌^◌, ◌<◌, ◌≤◌, ◌<ℤ◌, ◌+ℤ◌, ◌-ℤ◌, ◌↔◌, IsTrue, true, false, pos, neg_ℤ, if◌then◌else◌, length, drop, option_map, IfSome};
 ghost use Rattle.tn_base.specs.Arcs.{IsAtMost};
-ghost use Rattle.tn_base.specs.Sets.{has, sum_over, toggle};
+ghost use Rattle.tn_base.specs.Sets.{has, sum_over};
 ghost use Rattle.tn_market.specs.Reduced.{greater};
 ghost use Rattle.tn_dealer.specs.Pairs.{matched_worth};
 ghost use Rattle.tn_dealer.specs.Certificates.{own_number, KeepsAt, KeepsBeside, KeepsPairs, MayTake};
@@ -14,12 +14,12 @@ ghost use Rattle.tn_market.specs.Widths.{most_worth, most_own};
 
 use crate::costs::{CELLS, POSITIONS, UNLISTED, place};
 use crate::dealer::Dealer;
-use crate::search::{Certificate, Spare, search};
+use crate::search::{Certificate, Mates, search};
 use tn_base::Bundle;
 
 impl Dealer {
     /// Whether a bundle has as many purchases as sales: any other is impossible.
-    fn is_even(&self, x: Bundle) -> bool
+    pub(crate) fn is_even(&self, x: Bundle) -> bool
         ensures { result ≡ false → None ≡ matched_worth self.now.pairs.items x }
     {
         x.net(self.buys) == 0
@@ -39,30 +39,6 @@ impl Dealer {
         }
     }
 
-    /// What a bundle with position `k` toggled is worth, from a matching of the bundle where there is one.
-    pub(crate) fn toggled_worth(
-        &self,
-        costs: &[i32; CELLS],
-        x: Bundle,
-        k: u32,
-        spare: &Option<Spare>,
-    ) -> Option<i128>
-        requires costs { AreCosts self.now.pairs.items costs.now }
-        requires position { k < most_own }
-        ensures { result ≡ matched_worth self.now.pairs.items (toggle x k) }
-    {
-        let toggled = x.toggle(k);
-        if !self.is_even(toggled) {
-            return None;
-        }
-        if let Some(spare) = spare {
-            if let Some(worth) = self.shown(costs, toggled, &spare.toggled(k as usize)) {
-                return worth;
-            }
-        }
-        self.worth(costs, toggled)
-    }
-
     /// The worth that what was found shows, None where it shows nothing.
     fn shown(&self, costs: &[i32; CELLS], x: Bundle, found: &Certificate) -> Option<Option<i128>>
         requires costs { AreCosts self.now.pairs.items costs.now }
@@ -76,7 +52,7 @@ impl Dealer {
                 None
             };
         }
-        let (bundle, cost) = self.taken(costs, found);
+        let (bundle, cost) = self.taken(costs, &found.mates);
         if bundle == x && cost == sum && self.keeps(costs, x, &found.numbers, true) {
             Some(Some(-cost))
         } else {
@@ -85,7 +61,7 @@ impl Dealer {
     }
 
     /// Whether the numbers of no pair within the bundle sum to more than its cost, or than 0 where costs don't count.
-    fn keeps(
+    pub(crate) fn keeps(
         &self,
         costs: &[i32; CELLS],
         x: Bundle,
@@ -107,7 +83,7 @@ impl Dealer {
     }
 
     /// The bundle that the mates match by listed pairs, and what these cost together.
-    fn taken(&self, costs: &[i32; CELLS], found: &Certificate) -> (Bundle, i128)
+    pub(crate) fn taken(&self, costs: &[i32; CELLS], mates: &Mates) -> (Bundle, i128)
         requires costs { AreCosts self.now.pairs.items costs.now }
         ensures worth { IsWorth (matched_worth self.now.pairs.items) result.0 (neg_ℤ result.1) }
         ensures small { IsAtMost result.1 (most_own * most_amount) }
@@ -115,7 +91,7 @@ impl Dealer {
         let mut bundle = Bundle::empty();
         let mut cost = 0;
         for k in 0..self.trades as usize {
-            (bundle, cost) = take_in(costs, found.pair_at(k), bundle, cost);
+            (bundle, cost) = take_in(costs, mates.pair_at(k), bundle, cost);
         }
         (bundle, cost)
     }
