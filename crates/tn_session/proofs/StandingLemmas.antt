@@ -1,8 +1,10 @@
 -- What a session stands on and what it holds.
-use Rattle.std.proofs.Common.{◌≡◌, ℕ, zero, suc, ◌+◌, ◌-◌, ◌*◌, ◌<◌, ◌≤◌, Bool, true, false, not, ◌==◌, ◌||◌, ◌&&◌, inl, inr, refl, sym, ap, ◌∙◌, subst, arith, ℤ, pos, neg_ℤ, ◌-ℤ◌, List, [], ◌∷◌, length, map, slice_get, Some}
+use Rattle.std.proofs.Common.{◌≡◌, ◌≢◌, ℕ, zero, suc, ◌+◌, ◌-◌, ◌*◌, ◌<◌, ◌≤◌, Bool, true, false, not, ◌==◌, ◌||◌, ◌&&◌, inl, inr, refl, sym, ap, ◌∙◌, subst, arith, ℤ, pos, neg_ℤ, ◌-ℤ◌, List, [], ◌∷◌, length, map, slice_get, Some}
 use Rattle.std.specs.Prelude.{◌≤ℤ◌}
+use mathlib.Core.Bool.{beq}
 use Rattle.std.proofs.lemmas.Int.{ints}
 use Rattle.std.proofs.lemmas.List.{get_or_default}
+use Rattle.std.proofs.lemmas.Nat.{mul-le}
 use Rattle.std.proofs.lemmas.Bool.{cases_eq, cases_lt, eq-eqb, ne_eqb}
 use Rattle.std.proofs.lemmas.List.FromFn.{get_or-map-range_with_len, length-map-range_with_len}
 use Rattle.tn_base.specs.Sets.{has, toggle}
@@ -10,6 +12,7 @@ use Rattle.tn_base.proofs.SetLemmas.{has-toggle_same, has-toggle_other, toggle-t
 use Rattle.tn_base.specs.Arcs.{IsAtMost}
 use Rattle.tn_base.specs.Firm.{Firm, MayAbstain}
 use Rattle.tn_market.specs.Traded.{Traded}
+use Rattle.tn_model.specs.declared.ends.Ends.{Ends}
 use Rattle.tn_model.specs.Network.{IsNetwork}
 use Rattle.tn_market.specs.Lawful.{IsLawful}
 use Rattle.tn_market.specs.Valued.{IsWorthAtMost}
@@ -207,6 +210,26 @@ with_trade allowed t after e P on before =
 pub without : (allowed t after : ℕ) → after ≡ toggle allowed t → has allowed t ≡ true → has after t ≡ false
 without allowed t after e there = ap (λ (x : ℕ). has x t) e ∙ has-toggle_same allowed t ∙ ap not there
 
+-- rounds that are under way stay so where a trade is barred that is off
+pub under_way_off : (firms : List Firm) (trades : List Ends) (graph : CostBlocks) (finder : Reading)
+    (allowed on t after : ℕ) → AreUnderWay firms trades graph finder allowed on → after ≡ toggle allowed t
+    → has allowed t ≡ true → has on t ≡ false → AreUnderWay firms trades graph finder after on
+under_way_off firms trades graph finder allowed on t after under_way e there off = record {
+  arcs = before_joined firms trades on after t graph out
+      (with_trade allowed t after e (λ x y. IsExchangeAmong firms trades y x graph) on under_way.arcs);
+  sized = under_way.sized;
+  kept = one_cycle_bars_a_trade.still firms trades after on t
+      (with_trade allowed t after e (IsKept firms trades) on under_way.kept) out off;
+  labels = record {
+    one_each = under_way.labels.one_each;
+    keeps = one_cycle_bars_a_trade.off_labels firms trades after on t out (label_in finder.labels)
+        (with_trade allowed t after e (λ x y. AreKept firms trades x y finder.labels) on under_way.labels).keeps;
+  };
+}
+  where
+    out : has after t ≡ false
+    out = without allowed t after e there
+
 -- a session in which a trade is barred that is off
 pub barred_off : {V : Type 0} (firm_of : V → Firm) (limit_of : V
     → ℕ) (width : ℕ) (market : Traded V) (graph : CostBlocks) (finder : Reading) (allowed on t after : ℕ)
@@ -217,24 +240,58 @@ barred_off firm_of limit_of width market graph finder allowed on t after session
   wide = session.wide;
   small = session.small;
   fits_graph = session.fits_graph;
-  under_way = record {
-    arcs = before_joined (map firm_of market.firms) market.trades on after t graph out
-        (with_trade allowed t after e (λ x y. IsExchangeAmong (map firm_of market.firms) market.trades y x graph) on
-        session.under_way.arcs);
-    sized = session.under_way.sized;
-    kept = one_cycle_bars_a_trade.still (map firm_of market.firms) market.trades after on t
-        (with_trade allowed t after e (IsKept (map firm_of market.firms) market.trades) on session.under_way.kept) out
-        off;
-    labels = record {
-      one_each = session.under_way.labels.one_each;
-      keeps = one_cycle_bars_a_trade.off_labels (map firm_of market.firms) market.trades after on t out
-          (label_in finder.labels)
-          (with_trade allowed t after e (λ x y. AreKept (map firm_of market.firms) market.trades x y finder.labels) on
-          session.under_way.labels).keeps;
-    };
-  };
+  under_way = under_way_off (map firm_of market.firms) market.trades graph finder allowed on t after session.under_way e
+      there off;
   settled = session.settled;
 }
+
+-- ---- several trades
+
+-- after a round for each of some trades labels are far from the limits of their type
+pub moved_near : (t count : ℕ) (labels : List ℤ) → t ≤ count → count ≤ most_market_trades
+    → AreNear (most_path + t * label_step (count + 1)) labels → AreNear most_label labels
+moved_near t count labels within few =
+    near-wider (most_path + t * label_step (count + 1)) most_label labels
+    (let first : t * label_step (count + 1) ≤ most_market_trades * label_step (count + 1) =
+    mul-le t (label_step (count + 1)) most_market_trades (label_step (count + 1)) (omega (arith, within, few))
+    (omega arith) in
+    omega (arith, first, few))
+
+pub moved_next : (from t step : ℕ) (labels : List ℤ) → AreNear (from + t * step + step) labels
+    → AreNear (from + (t + 1) * step) labels
+moved_next from t step labels near =
+    subst (λ (n : ℕ). AreNear n labels) (let e : from + t * step + step ≡ from + (t + 1) * step = grind arith in e) near
+
+-- the trades below t are admitted where they are wanted
+abbrev pub AreMovedBelow : ℕ → ℕ → ℕ → Type 0
+AreMovedBelow wanted t allowed = (k : ℕ) → k < t → has allowed k ≡ has wanted k
+
+pub one_moved : (wanted t before after : ℕ) (is_wanted : Bool) → AreMovedBelow wanted t before
+    → is_wanted ≡ has wanted t → has after t ≡ is_wanted → ((k : ℕ) → k ≢ t → has after k ≡ has before k)
+    → AreMovedBelow wanted (t + 1) after
+one_moved wanted t before after is_wanted below wanted_is here elsewhere k inside = elim (cases_eq k t) [
+  | inl e ↦ ap (has after) e ∙ here ∙ wanted_is ∙ sym (ap (has wanted) e)
+  | inr apart ↦ elsewhere k apart ∙ below k (omega (arith, inside, apart))
+]
+
+-- a trade that is toggled where it isn't as it is wanted is then
+pub toggled_here : (before t after : ℕ) (wanted : Bool) → beq (has before t) wanted ≡ false → after ≡ toggle before t
+    → has after t ≡ wanted
+toggled_here before t after wanted differs is =
+    ap (λ (x : ℕ). has x t) is ∙ has-toggle_same before t ∙ by_case (has before t) wanted differs
   where
-    out : has after t ≡ false
-    out = without allowed t after e there
+    by_case : (a b : Bool) → beq a b ≡ false → not a ≡ b
+    by_case true true e = absurd (cc e)
+    by_case true false e = refl
+    by_case false true e = refl
+    by_case false false e = absurd (cc e)
+
+pub toggled_elsewhere : (before t after : ℕ) → after ≡ toggle before t → (k : ℕ) → k ≢ t
+    → has after k ≡ has before k
+toggled_elsewhere before t after is k apart = ap (λ (x : ℕ). has x k) is ∙ has-toggle_other before t k apart
+
+-- a trade that isn't as it is wanted isn't admitted where it is
+pub out_where : (is_in wanted : Bool) → beq is_in wanted ≡ false → wanted ≡ true → is_in ≡ false
+out_where false wanted apart is = refl
+out_where true true apart is = absurd (cc apart)
+out_where true false apart is = absurd (cc is)

@@ -5,6 +5,7 @@
 #![tactic(auto)]
 
 mod barring;
+mod moving;
 mod session;
 
 pub use session::Session;

@@ -5,7 +5,7 @@ ghost use Rattle.tn_base.specs.Sets.{has};
 ghost use Rattle.tn_base.specs.Widths.{most_limbs};
 ghost use Rattle.tn_model.specs.Prices.{price_at};
 ghost use Rattle.tn_cycle.specs.Answers.{AreNear};
-ghost use Rattle.tn_cycle.specs.Widths.{label_step};
+ghost use Rattle.tn_cycle.specs.Widths.{label_step, most_label};
 ghost use Rattle.tn_market.specs.Graph.{graph_worths};
 ghost use Rattle.tn_flow.specs.Underway.{AreUnderWay};
 ghost use Rattle.tn_session.specs.Standing.{AreFirmsSmall, HasSmallPrices, HoldsEquilibrium, IsSession, standing_of};
@@ -13,6 +13,7 @@ ghost use Rattle.tn_session.specs.Widths.{most_path};
 ghost use Rattle.tn_market.specs.NetworkOf.{network_of};
 
 use crate::barring::switch_off;
+use crate::moving::move_all;
 use std::alloc::Global;
 use std::marker::Model;
 use tn_base::{OutOfMemory, Steps, TradeSet};
@@ -44,7 +45,27 @@ impl<'a, V: Valuation, const W: usize> Model for Session<'a, V, W> {
         session.rounds.finder session.rounds.allowed session.rounds.on };
 }
 
-/// Settles rounds that are under way, at most one round since they were settled last: then a session may hold them.
+/// Settles rounds that are under way: then a session may hold them.
+fn settle_all<V: Valuation, const W: usize>(rounds: &mut Rounds<W>, market: &Market<V>)
+    requires wide { length market.now.trades ≤ 64 * W }
+    requires small { AreFirmsSmall V.limit market.now }
+    requires under_way { network_of V.firm market.now AreUnderWay rounds.old.graph rounds.old.finder rounds.old.allowed
+        rounds.old.on }
+    requires near { AreNear most_label rounds.old.finder.labels }
+    ensures settled { IsSession V.firm V.limit W market.now rounds.new.graph rounds.new.finder rounds.new.allowed
+        rounds.new.on }
+    ensures equilibrium { HoldsEquilibrium V.firm (standing_of market.now rounds.new.allowed rounds.new.on
+        rounds.new.finder.labels) }
+    ensures prices { HasSmallPrices V.firm (standing_of market.now rounds.new.allowed rounds.new.on
+        rounds.new.finder.labels) }
+    ensures admitted { rounds.new.allowed ≡ rounds.old.allowed }
+    ensures on { rounds.new.on ≡ rounds.old.on }
+{
+    let _trades = market.trades();
+    rounds.settle(market);
+}
+
+/// Settles rounds that are under way, at most one round since they were settled last.
 fn settle<V: Valuation, const W: usize>(rounds: &mut Rounds<W>, market: &Market<V>)
     requires wide { length market.now.trades ≤ 64 * W }
     requires small { AreFirmsSmall V.limit market.now }
@@ -61,7 +82,7 @@ fn settle<V: Valuation, const W: usize>(rounds: &mut Rounds<W>, market: &Market<
     ensures on { rounds.new.on ≡ rounds.old.on }
 {
     let _trades = market.trades();
-    rounds.settle(market);
+    settle_all(rounds, market);
 }
 
 impl<'a, V: Valuation, const W: usize> Session<'a, V, W> {
@@ -135,6 +156,22 @@ impl<'a, V: Valuation, const W: usize> Session<'a, V, W> {
             self.rounds.allowed.toggle(t);
         }
         true
+    }
+
+    /// Admits the trades of a set that aren't admitted and bars all others, one after another, and makes the prices what
+    /// they are for these once, at the end: so where several sets are efficient, another one may be on than after as many
+    /// single edits. It asks for at most a worth for each two places of each firm, once for each trade, and takes no
+    /// memory.
+    pub fn admit_only(&mut self, wanted: &TradeSet<W>, steps: &mut Steps<V::Mark>)
+        ensures admitted { (t : ℕ) → t < length self.old.market.trades → has self.new.admitted t ≡ has wanted.now t }
+        ensures market { self.new.market ≡ self.old.market }
+        ensures equilibrium { HoldsEquilibrium V.firm self.new }
+        ensures prices { HasSmallPrices V.firm self.new }
+        ensures asked { steps.new ≤ steps.old + length self.old.market.trades * graph_worths
+            (map V.firm self.old.market.firms) }
+    {
+        move_all(&mut self.rounds, self.market, wanted, steps);
+        settle_all(&mut self.rounds, self.market);
     }
 
     /// The trades that are admitted.
