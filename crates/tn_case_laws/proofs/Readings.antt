@@ -30,7 +30,7 @@ use Rattle.tn_read_firms.proofs.FailureLemmas.{none}
 use Rattle.tn_read_parts.specs.Lists.{one_on, named_prices, prices_of, contracts_at}
 use Rattle.tn_read_parts.specs.Arranged.{on_of, trades_on_of, arrangement_of}
 use Rattle.tn_read_parts.specs.Signed.{over_at, outcome_of}
-use Rattle.tn_read_claims.specs.Claimed.{claim_of, blocks_of, kind_of as claim_kind}
+use Rattle.tn_read_claims.specs.Claimed.{claim_of, blocks_of, kind_of as claim_kind, named_claim}
 use Rattle.tn_read_claims.specs.Members.{claimed_contracts, one_offer}
 use Rattle.tn_file.specs.declared.command.Command.{Command}
 use Rattle.tn_file.specs.declared.command.Command.TheVariants.{Check, Judge, Replay, Solve, Support, Test}
@@ -250,7 +250,7 @@ unfolding listed_of limits_at limits_of object_of allows few_at each firm_name n
 listed_12 = refl
 
 extra_12_is : extra_of Replay deal_listed Trees.top_12 ≡ Ok extra_12
-unfolding extra_of claim_of claim_kind blocks_of claimed_contracts one_offer outcome_of over_at contracts_at object_of
+unfolding extra_of claim_of named_claim claim_kind blocks_of claimed_contracts one_offer outcome_of over_at contracts_at object_of
     allows allows_in_claim each new_trade trade_at named_prices one_entry entry_of two_at number_in has toggle size
     size_below
 extra_12_is = refl

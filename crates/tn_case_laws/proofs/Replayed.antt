@@ -8,8 +8,8 @@ use Rattle.tn_base.proofs.SetLemmas.{has-zero}
 use Rattle.tn_exchange.specs.Rows.{worth_in}
 use Rattle.tn_cert.specs.Reasons.{Refutes, IsFirstToLeave}
 use Rattle.tn_commands.specs.Replay.{DecidesClaim}
-use Rattle.tn_said.specs.declared.claim.Claim.{Claim}
-use Rattle.tn_said.specs.declared.claim.Claim.TheVariants.{Blocks as BlocksIs}
+use Rattle.tn_said.specs.Claim.{Claim, on_market}
+use Rattle.tn_said.specs.declared.claim.MarketClaim.TheVariants.{Blocks as BlocksIs}
 use Rattle.tn_model.specs.declared.contract.Contract.{Contract}
 use Rattle.tn_model.specs.declared.contract.Outcome.{Outcome}
 use Rattle.tn_said.specs.declared.reason.Reason.{Reason}
@@ -25,7 +25,7 @@ abbrev pub unsigned : Outcome
 unsigned = record { over = pos 1; contracts = [] }
 
 abbrev pub blocks_claim : Claim
-blocks_claim = BlocksIs unsigned at_9 (pos 3)
+blocks_claim = on_market (BlocksIs unsigned at_9 (pos 3))
 
 -- at the price 3 the seller may as well leave the contract
 leaves : IsChoice deal_trades (pos 1 *ℤ pos 3) 0 (seller asks_3) (together (pos 3) at_9 (pos 1) []) 0

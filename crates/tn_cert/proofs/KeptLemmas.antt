@@ -5,7 +5,8 @@ use Rattle.std.proofs.lemmas.Option.{same_Some, slice_get_cases, slice_get-map}
 use Rattle.tn_base.specs.Sets.{has, sum_over}
 use Rattle.tn_base.specs.Firm.{Firm, payments}
 use Rattle.tn_base.proofs.SetLemmas.{has_below}
-use Rattle.tn_said.specs.declared.claim.Claim.TheVariants.{Drops}
+use Rattle.tn_said.specs.Claim.{on_market}
+use Rattle.tn_said.specs.declared.claim.MarketClaim.TheVariants.{Drops}
 use Rattle.tn_model.specs.declared.contract.Contract.{Contract}
 use Rattle.tn_model.specs.declared.contract.Outcome.{Outcome}
 use Rattle.tn_model.specs.declared.ends.Ends.{Ends}
@@ -101,14 +102,14 @@ pub drops_decided : (firms : List Firm) (trades : List Ends) (outcome : Outcome)
     → contract_utility trades outcome.over outcome.contracts f firm (signed_bundle trades outcome.contracts f firm)
     ≡ other
     → DecidesGain f (option_map (λ z. value -ℤ z) other) claimed replayed
-    → Replays firms trades (Drops outcome f keeps claimed over) replayed
+    → Replays firms trades (on_market (Drops outcome f keeps claimed over)) replayed
 drops_decided firms trades outcome f firm keeps claimed over value other Valid is over_is signed value_is other_is
     tells =
-    subst (λ (o : Option ℤ). Replays firms trades (Drops outcome f keeps o over) Valid) tells.0
+    subst (λ (o : Option ℤ). Replays firms trades (on_market (Drops outcome f keeps o over)) Valid) tells.0
     (over_is, signed, (firm, is, gains_by_keeping trades outcome f firm keeps value other value_is other_is), tells.1)
 drops_decided firms trades outcome f firm keeps claimed over value other (Invalid reason) is over_is signed value_is
     other_is tells =
-    subst (Refutes firms trades (Drops outcome f keeps claimed over)) (sym tells.0) (
+    subst (Refutes firms trades (on_market (Drops outcome f keeps claimed over))) (sym tells.0) (
       over_is,
       signed,
       refl,

@@ -4,7 +4,8 @@ use Rattle.std.specs.Prelude.{IfSome, is_some, ◌-ℤ◌}
 use Rattle.std.proofs.lemmas.Bool.{true≢false}
 use Rattle.std.proofs.lemmas.Option.{same_Some}
 use Rattle.tn_base.specs.Firm.{Firm}
-use Rattle.tn_said.specs.declared.claim.Claim.TheVariants.{Drops, Completes as CompletesIs, Blocks as BlocksIs}
+use Rattle.tn_said.specs.Claim.{on_market}
+use Rattle.tn_said.specs.declared.claim.MarketClaim.TheVariants.{Drops, Completes as CompletesIs, Blocks as BlocksIs}
 use Rattle.tn_model.specs.declared.contract.Contract.{Contract as ContractOf}
 use Rattle.tn_model.specs.declared.contract.Outcome.{Outcome}
 use Rattle.tn_model.specs.declared.ends.Ends.{Ends}
@@ -51,7 +52,7 @@ both_firms firms f P Q first second clash =
 pub drops_refuted : (firms : List Firm) (trades : List Ends) (outcome : Outcome) (f keeps : ℕ) (gain : Option ℤ)
     (over : ℤ) (reason : Reason)
     → RefutesDrops firms trades outcome f keeps gain over reason
-    → IsValid firms trades (Drops outcome f keeps gain over) → ⊥
+    → IsValid firms trades (on_market (Drops outcome f keeps gain over)) → ⊥
 drops_refuted firms trades outcome f keeps gain over (Over told) refutes valid = refutes.1 valid.0
 drops_refuted firms trades outcome f keeps gain over (Contract t) refutes valid =
     let first = refutes.1 in
@@ -74,7 +75,7 @@ drops_refuted firms trades outcome f keeps gain over reason refutes valid = absu
 
 pub blocks_refuted : (firms : List Firm) (trades : List Ends) (outcome : Outcome) (offers : List ContractOf) (e : ℤ)
     (reason : Reason)
-    → RefutesBlocks firms trades outcome offers e reason → IsValid firms trades (BlocksIs outcome offers e) → ⊥
+    → RefutesBlocks firms trades outcome offers e reason → IsValid firms trades (on_market (BlocksIs outcome offers e)) → ⊥
 blocks_refuted firms trades outcome offers e Empty refutes valid = let some = valid.some in let none = ap length refutes
     in absurd (omega (arith, some, none))
 blocks_refuted firms trades outcome offers e (Signed t) refutes valid =
@@ -91,7 +92,7 @@ blocks_refuted firms trades outcome offers e reason refutes valid = absurd refut
 pub completes_refuted : (firms : List Firm) (trades : List Ends) (outcome : Outcome) (prices : List ℤ) (over : ℤ)
     (reason : Reason)
     → RefutesCompletes firms trades outcome (price_at prices) over reason
-    → IsValid firms trades (CompletesIs outcome prices over) → ⊥
+    → IsValid firms trades (on_market (CompletesIs outcome prices over)) → ⊥
 completes_refuted firms trades outcome prices over (Over told) refutes valid = refutes.1 valid.0
 completes_refuted firms trades outcome prices over (Price t) refutes valid =
     let first = refutes.1 in

@@ -8,7 +8,9 @@ use Rattle.tn_base.specs.Sets.{sum_over}
 use Rattle.tn_base.specs.Exchange.{Fails}
 use Rattle.tn_base.proofs.ExchangeLemmas.{none_fails_from_exchange}
 use Rattle.tn_local.proofs.FirstLemmas.{triple_fails}
-use Rattle.tn_said.specs.declared.claim.Claim.TheVariants.{Impossible, Accepted, ExchangeFails}
+use Rattle.tn_said.specs.Claim.{on_market, on_firms}
+use Rattle.tn_said.specs.declared.claim.MarketClaim.TheVariants.{Impossible}
+use Rattle.tn_said.specs.declared.claim.FirmClaim.TheVariants.{Accepted, ExchangeFails}
 use Rattle.tn_model.specs.declared.ends.Ends.{Ends}
 use Rattle.tn_said.specs.declared.reason.Reason.{Reason}
 use Rattle.tn_said.specs.declared.reason.Reason.TheVariants.{Impossible as ImpossibleIs, Better as BetterIs, Possible, Surplus, Gain, Exchange, Holds, Arc, Cost}
@@ -108,22 +110,22 @@ cycle_refuted firms trades on nodes claimed (Cost cost) refutes valid =
 cycle_refuted firms trades on nodes claimed reason refutes valid = absurd refutes
 
 pub impossible_refuted : (firms : List Firm) (trades : List Ends) (on f : ℕ) (reason : Reason)
-    → Refutes firms trades (Impossible on f) reason → IsValid firms trades (Impossible on f) → ⊥
+    → Refutes firms trades (on_market (Impossible on f)) reason → IsValid firms trades (on_market (Impossible on f)) → ⊥
 impossible_refuted firms trades on f (Possible g) (_, (firm, is, some)) (other, other_is, none) =
     some_none _ (subst (λ (it : Firm). IsSome (it.worth (part trades f it.count on)))
     (same_Some firm other (sym is ∙ other_is)) some) none
 impossible_refuted firms trades on f reason refutes valid = absurd refutes
 
-pub accepted_refuted : (firms : List Firm) (trades : List Ends) (reason : Reason) → Refutes firms trades Accepted reason
-    → IsValid firms trades Accepted → ⊥
+pub accepted_refuted : (firms : List Firm) (trades : List Ends) (reason : Reason) → Refutes firms trades (on_firms Accepted) reason
+    → IsValid firms trades (on_firms Accepted) → ⊥
 accepted_refuted firms trades (Exchange f x y at) fails valid =
     none_fails_from_exchange fails.firm (valid f fails.firm fails.is) fails.triple.x fails.triple.y fails.triple.at
     (triple_fails fails.firm fails.triple fails.first)
 accepted_refuted firms trades reason refutes valid = absurd refutes
 
 pub failure_refuted : (firms : List Firm) (trades : List Ends) (f x y : ℕ) (at : Option ℕ) (reason : Reason)
-    → Refutes firms trades (ExchangeFails f x y at) reason
-    → IsValid firms trades (ExchangeFails f x y at) → ⊥
+    → Refutes firms trades (on_firms (ExchangeFails f x y at)) reason
+    → IsValid firms trades (on_firms (ExchangeFails f x y at)) → ⊥
 failure_refuted firms trades f x y at Holds (firm, is, holds) (other, other_is, fails) =
     holds (subst (λ (it : Firm). Fails it x y at) (same_Some other firm (sym other_is ∙ is)) fails)
 failure_refuted firms trades f x y at reason refutes valid = absurd refutes

@@ -4,8 +4,9 @@ use Rattle.tn_base.specs.Sets.{has}
 use Rattle.tn_base.specs.Firm.{Firm}
 use Rattle.tn_base.specs.Walks.{walk_cost}
 use Rattle.tn_base.specs.Exchange.{MeetsExchange, Fails}
-use Rattle.tn_said.specs.declared.claim.Claim.{Claim}
-use Rattle.tn_said.specs.declared.claim.Claim.TheVariants.{Equilibrium, Better, Impossible, Accepted, ExchangeFails, Supported, Cycle, Solved, Drops, Completes as CompletesIs, Blocks as BlocksIs, NoPrices}
+use Rattle.tn_said.specs.Claim.{Claim, on_market, on_firms}
+use Rattle.tn_said.specs.declared.claim.MarketClaim.TheVariants.{Equilibrium, Better, Impossible, Supported, Cycle, Solved, Drops, Completes as CompletesIs, Blocks as BlocksIs}
+use Rattle.tn_said.specs.declared.claim.FirmClaim.TheVariants.{Accepted, ExchangeFails, NoPrices}
 use Rattle.tn_model.specs.declared.contract.Outcome.{Outcome}
 use Rattle.tn_model.specs.declared.ends.Ends.{Ends}
 use Rattle.tn_model.specs.Prices.{price_at}
@@ -53,23 +54,23 @@ GoesRound arc [] cost = ⊥
 GoesRound arc (first ∷ rest) cost = walk_cost arc first rest first ≡ Some cost
 
 abbrev pub IsValid : List Firm → List Ends → Claim → Type 0
-IsValid firms trades (Equilibrium at surplus) = IsEquilibrium firms trades (pos 1) at.on (price_at at.prices)
+IsValid firms trades (on_market (Equilibrium at surplus)) = IsEquilibrium firms trades (pos 1) at.on (price_at at.prices)
     × (surplus_of firms trades at.on ≡ Some surplus)
-IsValid firms trades (Solved at surplus) = IsEquilibrium firms trades (pos 1) at.on (price_at at.prices)
+IsValid firms trades (on_market (Solved at surplus)) = IsEquilibrium firms trades (pos 1) at.on (price_at at.prices)
     × (surplus_of firms trades at.on ≡ Some surplus)
-IsValid firms trades (Supported on prices) = IsEquilibrium firms trades (pos 1) on (price_at prices)
-IsValid firms trades (Better at f x gain) =
+IsValid firms trades (on_market (Supported on prices)) = IsEquilibrium firms trades (pos 1) on (price_at prices)
+IsValid firms trades (on_market (Better at f x gain)) =
     IsFirmWith firms f (λ firm. Gains trades (pos 1) (price_at at.prices) f firm x (part trades f firm.count at.on)
     gain) × IsPositive gain
-IsValid firms trades (Impossible on f) = IsFirmWith firms f (λ firm. firm.worth (part trades f firm.count on) ≡ None)
-IsValid firms trades (Cycle on nodes cost) = ArePossible firms trades on
+IsValid firms trades (on_market (Impossible on f)) = IsFirmWith firms f (λ firm. firm.worth (part trades f firm.count on) ≡ None)
+IsValid firms trades (on_market (Cycle on nodes cost)) = ArePossible firms trades on
     × GoesRound (exchange_arc firms trades on) (map (node_of (length trades)) nodes) cost × (cost <ℤ pos 0)
-IsValid firms trades (Drops outcome f keeps gain over) = (over ≡ outcome.over) × AreSigned trades outcome f keeps
+IsValid firms trades (on_market (Drops outcome f keeps gain over)) = (over ≡ outcome.over) × AreSigned trades outcome f keeps
     × IsFirmWith firms f (λ firm. GainsByKeeping trades outcome f firm keeps gain) × IfSome gain IsPositive
-IsValid firms trades (CompletesIs outcome prices over) = (over ≡ outcome.over)
+IsValid firms trades (on_market (CompletesIs outcome prices over)) = (over ≡ outcome.over)
     × Completes firms trades over outcome.contracts (price_at prices)
-IsValid firms trades (BlocksIs outcome contracts over) =
+IsValid firms trades (on_market (BlocksIs outcome contracts over)) =
     Blocks firms trades outcome.over outcome.contracts over contracts
-IsValid firms trades Accepted = (f : ℕ) (firm : Firm) → slice_get firms f ≡ Some firm → MeetsExchange firm
-IsValid firms trades (ExchangeFails f x y at) = IsFirmWith firms f (λ firm. Fails firm x y at)
-IsValid firms trades (NoPrices plan over) = IsPlanAgainst firms trades plan over
+IsValid firms trades (on_firms Accepted) = (f : ℕ) (firm : Firm) → slice_get firms f ≡ Some firm → MeetsExchange firm
+IsValid firms trades (on_firms (ExchangeFails f x y at)) = IsFirmWith firms f (λ firm. Fails firm x y at)
+IsValid firms trades (on_firms (NoPrices plan over)) = IsPlanAgainst firms trades plan over

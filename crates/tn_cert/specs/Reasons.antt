@@ -5,8 +5,9 @@ use Rattle.tn_base.specs.Firm.{Firm}
 use Rattle.tn_base.specs.Exchange.{MeetsExchange, Fails}
 use Rattle.tn_exchange.specs.TestOrder.{Triple}
 use Rattle.tn_local.specs.First.{IsFirstTriple}
-use Rattle.tn_said.specs.declared.claim.Claim.{Claim}
-use Rattle.tn_said.specs.declared.claim.Claim.TheVariants.{Equilibrium, Better, Impossible, Accepted, ExchangeFails, Supported, Cycle, Solved, Drops, Completes as CompletesIs, Blocks as BlocksIs, NoPrices}
+use Rattle.tn_said.specs.Claim.{Claim, on_market, on_firms}
+use Rattle.tn_said.specs.declared.claim.MarketClaim.TheVariants.{Equilibrium, Better, Impossible, Supported, Cycle, Solved, Drops, Completes as CompletesIs, Blocks as BlocksIs}
+use Rattle.tn_said.specs.declared.claim.FirmClaim.TheVariants.{Accepted, ExchangeFails, NoPrices}
 use Rattle.tn_model.specs.declared.contract.Contract.{Contract}
 use Rattle.tn_model.specs.declared.contract.Outcome.{Outcome}
 use Rattle.tn_model.specs.declared.ends.Ends.{Ends}
@@ -185,24 +186,24 @@ pub record IsFirstToFail (firms : List Firm) (trades : List Ends) (f : ℕ) (x y
 
 -- the reason against a claim: its first condition that fails
 abbrev pub Refutes : List Firm → List Ends → Claim → Reason → Type 0
-Refutes firms trades (Equilibrium at surplus) reason =
+Refutes firms trades (on_market (Equilibrium at surplus)) reason =
     RefutesEquilibrium firms trades at.on (price_at at.prices) surplus reason
-Refutes firms trades (Solved at surplus) reason =
+Refutes firms trades (on_market (Solved at surplus)) reason =
     RefutesEquilibrium firms trades at.on (price_at at.prices) surplus reason
-Refutes firms trades (Supported on prices) reason = LacksBest firms trades (pos 1) on (price_at prices) reason
-Refutes firms trades (Better at f x gain) reason = RefutesBetter firms trades at.on (price_at at.prices) f x gain reason
-Refutes firms trades (Impossible on f) (Possible g) = (g ≡ f)
+Refutes firms trades (on_market (Supported on prices)) reason = LacksBest firms trades (pos 1) on (price_at prices) reason
+Refutes firms trades (on_market (Better at f x gain)) reason = RefutesBetter firms trades at.on (price_at at.prices) f x gain reason
+Refutes firms trades (on_market (Impossible on f)) (Possible g) = (g ≡ f)
     × IsFirmWith firms f (λ firm. IsSome (firm.worth (part trades f firm.count on)))
-Refutes firms trades (Impossible on f) reason = ⊥
-Refutes firms trades (Cycle on nodes cost) reason =
+Refutes firms trades (on_market (Impossible on f)) reason = ⊥
+Refutes firms trades (on_market (Cycle on nodes cost)) reason =
     RefutesCycle firms trades on (map (node_of (length trades)) nodes) cost reason
-Refutes firms trades (Drops outcome f keeps gain over) reason =
+Refutes firms trades (on_market (Drops outcome f keeps gain over)) reason =
     RefutesDrops firms trades outcome f keeps gain over reason
-Refutes firms trades (CompletesIs outcome prices over) reason =
+Refutes firms trades (on_market (CompletesIs outcome prices over)) reason =
     RefutesCompletes firms trades outcome (price_at prices) over reason
-Refutes firms trades (BlocksIs outcome contracts over) reason = RefutesBlocks firms trades outcome contracts over reason
-Refutes firms trades Accepted (Exchange f x y at) = IsFirstToFail firms trades f x y at
-Refutes firms trades Accepted reason = ⊥
-Refutes firms trades (ExchangeFails f x y at) Holds = IsFirmWith firms f (λ firm. Fails firm x y at → ⊥)
-Refutes firms trades (ExchangeFails f x y at) reason = ⊥
-Refutes firms trades (NoPrices plan over) reason = RefutesPlan firms trades plan over reason
+Refutes firms trades (on_market (BlocksIs outcome contracts over)) reason = RefutesBlocks firms trades outcome contracts over reason
+Refutes firms trades (on_firms Accepted) (Exchange f x y at) = IsFirstToFail firms trades f x y at
+Refutes firms trades (on_firms Accepted) reason = ⊥
+Refutes firms trades (on_firms (ExchangeFails f x y at)) Holds = IsFirmWith firms f (λ firm. Fails firm x y at → ⊥)
+Refutes firms trades (on_firms (ExchangeFails f x y at)) reason = ⊥
+Refutes firms trades (on_firms (NoPrices plan over)) reason = RefutesPlan firms trades plan over reason

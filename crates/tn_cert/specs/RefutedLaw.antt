@@ -1,7 +1,7 @@
 -- That a claim has no reason against it where it is valid.
 use Rattle.std.specs.Prelude.{List}
 use Rattle.tn_base.specs.Firm.{Firm}
-use Rattle.tn_said.specs.declared.claim.Claim.{Claim}
+use Rattle.tn_said.specs.Claim.{Claim}
 use Rattle.tn_model.specs.declared.ends.Ends.{Ends}
 use Rattle.tn_said.specs.declared.reason.Reason.{Reason}
 use Rattle.tn_cert.specs.Claims.{IsValid}

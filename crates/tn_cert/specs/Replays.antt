@@ -1,9 +1,8 @@
 -- What the replay of a claim says.
-use Rattle.std.specs.Prelude.{◌≡◌, ◌⊎◌, ℕ, ℤ, pos, List, map, Bool, true, false, Option, Some, None, option_map, Result, Ok, Err}
+use Rattle.std.specs.Prelude.{◌≡◌, ◌⊎◌, ℕ, ℤ, pos, List, map, Option, Some, None, option_map, Result, Ok, Err}
 use Rattle.tn_base.specs.Arcs.{IsAtMost}
 use Rattle.tn_base.specs.Firm.{Firm}
-use Rattle.tn_said.specs.declared.claim.Claim.{Claim}
-use Rattle.tn_said.specs.declared.claim.Claim.TheVariants.{Equilibrium, Better, Impossible, Accepted, ExchangeFails, Supported, Cycle, Solved, Drops, Completes, Blocks, NoPrices}
+use Rattle.tn_said.specs.Claim.{Claim}
 use Rattle.tn_model.specs.declared.ends.Ends.{Ends}
 use Rattle.tn_said.specs.declared.reason.Reason.{Reason}
 use Rattle.tn_said.specs.declared.reason.Reason.TheVariants.{Exchange, Whole}
@@ -20,22 +19,6 @@ use Rattle.tn_cert.specs.Reasons.{IsFirstBreak, LacksBest, Refutes}
 abbrev pub Replays : List Firm → List Ends → Claim → Replayed → Type 0
 Replays firms trades claim Valid = IsValid firms trades claim
 Replays firms trades claim (Invalid reason) = Refutes firms trades claim reason
-
--- whether the claim is one on a network whose firms aren't tested yet: of their exchange property, or that there are no
--- prices
-abbrev pub is_raw : Claim → Bool
-is_raw (Equilibrium at surplus) = false
-is_raw (Better at f x gain) = false
-is_raw (Impossible on f) = false
-is_raw Accepted = true
-is_raw (ExchangeFails f x y at) = true
-is_raw (Supported on prices) = false
-is_raw (Cycle on nodes cost) = false
-is_raw (Solved at surplus) = false
-is_raw (Drops outcome f keeps gain over) = false
-is_raw (Completes outcome prices over) = false
-is_raw (Blocks outcome contracts over) = false
-is_raw (NoPrices plan over) = true
 
 -- the reason with the trades at the firm's positions in place of the positions
 abbrev pub reason_in : List Ends → Reason → Reason

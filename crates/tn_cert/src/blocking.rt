@@ -5,7 +5,8 @@ ghost use Rattle.tn_base.specs.Arcs.{IsAtMost};
 ghost use Rattle.tn_cert.specs.Greatest.{DecidesContract, DecidesEqual, FindsLeaver, FindsSigned, HaveTradesOnce};
 ghost use Rattle.tn_cert.specs.Replays.{Replays};
 ghost use Rattle.tn_model.specs.Choices.{together};
-ghost use Rattle.tn_said.specs.declared.claim.Claim.TheVariants.{Blocks};
+ghost use Rattle.tn_said.specs.Claim.{on_market};
+ghost use Rattle.tn_said.specs.declared.claim.MarketClaim.TheVariants.{Blocks};
 ghost use Rattle.tn_said.specs.ClaimLimits.{AreOffersWithin, IsOverWithin};
 ghost use Rattle.tn_market.specs.Limits.{IsOutcomeOf, IsWithinLimits};
 ghost use Rattle.tn_model.specs.Limits.{most_claimed_over, most_number, most_numerator, most_over};
@@ -135,7 +136,7 @@ pub(crate) fn replay_blocks<V: Oracle>(
     requires outcome { IsOutcomeOf market.now.trades outcome.now.over outcome.now.contracts }
     requires offers { AreOffersWithin market.now.trades offers.now }
     requires over { IsOverWithin over }
-    ensures { IfOk result (network_of V.firm market.now Replays (Blocks outcome.now offers.now over)) }
+    ensures { IfOk result (network_of V.firm market.now Replays (on_market (Blocks outcome.now offers.now over))) }
 {
     if offers.len() == 0 {
         return Ok(Replayed::Invalid(Reason::Empty));

@@ -4,7 +4,8 @@ ghost use Rattle.std.specs.Prelude.{◌≡◌, ◌<◌, ◌≤◌, length, All, 
 ghost use Rattle.tn_base.specs.Arcs.{IsAtMost};
 ghost use Rattle.tn_cert.specs.Outcomes.{FindsMispriced};
 ghost use Rattle.tn_cert.specs.Replays.{Replays};
-ghost use Rattle.tn_said.specs.declared.claim.Claim.TheVariants.{Completes};
+ghost use Rattle.tn_said.specs.Claim.{on_market};
+ghost use Rattle.tn_said.specs.declared.claim.MarketClaim.TheVariants.{Completes};
 ghost use Rattle.tn_model.specs.Prices.{price_at};
 ghost use Rattle.tn_said.specs.ClaimLimits.{IsOverWithin};
 ghost use Rattle.tn_market.specs.Limits.{IsOutcomeOf, IsWithinLimits};
@@ -64,7 +65,7 @@ pub(crate) fn replay_completes<V: Oracle>(
     requires priced { length prices.now ≡ length market.now.trades }
     requires small_prices { All (λ p. IsAtMost p most_number) prices.now }
     requires over { IsOverWithin over }
-    ensures { IfOk result (network_of V.firm market.now Replays (Completes outcome.now prices.now over)) }
+    ensures { IfOk result (network_of V.firm market.now Replays (on_market (Completes outcome.now prices.now over))) }
 {
     if over != outcome.over {
         let over = outcome.over;

@@ -1,6 +1,7 @@
 //! Claims that nodes go round on arcs of the exchange graph.
 
 ghost use Rattle.std.specs.Prelude.{◌≡◌, ◌+◌, ◌<◌, ◌≤◌, IfOk, length, map};
+ghost use Rattle.tn_said.specs.Claim.{on_market};
 ghost use Rattle.tn_said.specs.ClaimLimits.{AreNodesWithin};
 ghost use Rattle.tn_market.specs.Limits.{IsWithinLimits};
 ghost use Rattle.tn_cert.specs.Limits.{most_claimed_trades};
@@ -15,7 +16,7 @@ use tn_base::{Costs, OutOfMemory, Steps, TradeSet};
 use tn_graph::Graph;
 use tn_market::{Market, Nodes, Oracle};
 use tn_price::first_unable;
-use tn_said::{Claim, Reason};
+use tn_said::{MarketClaim, Reason};
 
 /// The number of a node: null is the node after all trades.
 fn node_of(node: Option<u32>, null: u32) -> u32
@@ -68,7 +69,7 @@ pub(crate) fn replay_cycle<V: Oracle>(
     requires limits { IsWithinLimits V.firm V.limit market.now }
     requires few_trades { length market.now.trades ≤ most_claimed_trades }
     requires nodes { AreNodesWithin (length market.now.trades) nodes.now }
-    ensures { IfOk result (network_of V.firm market.now Replays (Claim.Cycle on.now nodes.now cost)) }
+    ensures { IfOk result (network_of V.firm market.now Replays (on_market (MarketClaim.Cycle on.now nodes.now cost))) }
 {
     if let Some(firm) = first_unable(market, on, steps) {
         return Ok(Replayed::Invalid(Reason::Impossible { firm }));

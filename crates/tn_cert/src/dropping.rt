@@ -5,7 +5,8 @@ ghost use Rattle.tn_base.specs.Arcs.{IsAtMost};
 ghost use Rattle.tn_base.specs.Sets.{has};
 ghost use Rattle.tn_cert.specs.Outcomes.{FindsUnsigned};
 ghost use Rattle.tn_cert.specs.Replays.{Replays};
-ghost use Rattle.tn_said.specs.declared.claim.Claim.TheVariants.{Drops};
+ghost use Rattle.tn_said.specs.Claim.{on_market};
+ghost use Rattle.tn_said.specs.declared.claim.MarketClaim.TheVariants.{Drops};
 ghost use Rattle.tn_market.specs.Limits.{IsOutcomeOf, IsWithinLimits};
 ghost use Rattle.tn_market.specs.Signed.{contract_utility, is_signed};
 ghost use Rattle.tn_market.specs.Widths.{most_utility};
@@ -87,7 +88,7 @@ pub(crate) fn replay_drops<V: Oracle>(
     requires outcome { IsOutcomeOf market.now.trades outcome.now.over outcome.now.contracts }
     requires firm { firm < length market.now.firms }
     requires own { (v : V) → slice_get market.now.firms firm ≡ Some v → keeps < 2 ^ (V.firm v).count }
-    ensures { network_of V.firm market.now Replays (Drops outcome.now firm keeps gain over) result }
+    ensures { network_of V.firm market.now Replays (on_market (Drops outcome.now firm keeps gain over)) result }
 {
     if over != outcome.over {
         let over = outcome.over;

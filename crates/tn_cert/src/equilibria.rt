@@ -4,6 +4,7 @@ ghost use Rattle.std.specs.Prelude.{◌≡◌, ◌<◌, ◌≤◌, pos, ◌≤�
 ghost use Rattle.tn_base.specs.Arcs.{IsAtMost};
 ghost use Rattle.tn_model.specs.Prices.{price_at};
 ghost use Rattle.tn_market.specs.Limits.{IsWithinLimits};
+ghost use Rattle.tn_said.specs.Claim.{on_market};
 ghost use Rattle.tn_cert.specs.Limits.{most_claimed_trades};
 ghost use Rattle.tn_model.specs.Limits.{most_claimed_over, most_number};
 ghost use Rattle.tn_cert.specs.Replays.{FindsLack, Replays, Weighs};
@@ -14,7 +15,7 @@ use std::alloc::Global;
 use tn_base::{OutOfMemory, TradeSet};
 use tn_market::{Arrangement, Market, Oracle, Prices};
 use tn_price::{Check, judge_at, trades_in};
-use tn_said::{Claim, Reason};
+use tn_said::{MarketClaim, Reason};
 
 /// The surplus of an equilibrium at a scale, or the first firm without a best bundle, as the reason against one. It
 /// fails only where memory runs out.
@@ -77,7 +78,7 @@ pub(crate) fn replay_equilibrium<V: Oracle>(
     requires few_trades { length market.now.trades ≤ most_claimed_trades }
     requires priced { length at.now.prices ≡ length market.now.trades }
     requires small_prices { All (λ p. IsAtMost p most_number) at.now.prices }
-    ensures { IfOk result (network_of V.firm market.now Replays (Claim.Equilibrium at.now surplus)) }
+    ensures { IfOk result (network_of V.firm market.now Replays (on_market (MarketClaim.Equilibrium at.now surplus))) }
 {
     match weigh(alloc, market, 1, &at.on, &at.prices)? {
         Ok(actual) => {
@@ -102,7 +103,7 @@ pub(crate) fn replay_supported<V: Oracle>(
     requires few_trades { length market.now.trades ≤ most_claimed_trades }
     requires priced { length prices.now ≡ length market.now.trades }
     requires small_prices { All (λ p. IsAtMost p most_number) prices.now }
-    ensures { IfOk result (network_of V.firm market.now Replays (Claim.Supported on.now prices.now)) }
+    ensures { IfOk result (network_of V.firm market.now Replays (on_market (MarketClaim.Supported on.now prices.now))) }
 {
     match first_lack(alloc, market, 1, on, prices)? {
         None => Ok(Replayed::Valid),

@@ -4,6 +4,7 @@ ghost use Rattle.std.specs.Prelude.{◌≡◌, ◌^◌, ◌<◌, ◌≤◌, ◌�
 ghost use Rattle.tn_base.specs.Exchange.{Fails};
 ghost use Rattle.tn_firm.specs.Raw.{CanBeTested, raw_firm_of};
 ghost use Rattle.tn_model.specs.declared.ends.Ends.{Ends};
+ghost use Rattle.tn_said.specs.Claim.{on_firms};
 ghost use Rattle.tn_said.specs.ClaimLimits.{IsFirmWith};
 ghost use Rattle.tn_model.specs.Limits.{most_firms};
 ghost use Rattle.tn_model.specs.Network.{trades_on};
@@ -15,7 +16,7 @@ use tn_base::{Bundle, OutOfMemory};
 use tn_exchange::{Verdict, fails_at};
 use tn_firm::RawFirm;
 use tn_market::Trades;
-use tn_said::{Claim, Reason};
+use tn_said::{FirmClaim, Reason};
 
 /// The positions below `count` in a bundle, ascending. It fails only where memory runs out.
 pub(crate) fn positions_in(alloc: Global, bundle: Bundle, count: u32) -> Result<Trades, OutOfMemory>
@@ -36,7 +37,7 @@ pub(crate) fn replay_accepted(alloc: Global, firms: &[RawFirm]) -> Result<Replay
     requires few_firms { length firms.now ≤ most_firms }
     requires testable { All CanBeTested firms.now }
     ensures replays { IfOk result (λ replayed. (trades : List Ends)
-        → Replays (map raw_firm_of firms.now) trades Claim.Accepted (in_trades trades replayed)) }
+        → Replays (map raw_firm_of firms.now) trades (on_firms FirmClaim.Accepted) (in_trades trades replayed)) }
     ensures small { IfOk result HasSmallSurplus }
 {
     for (f, firm) in firms.iter().enumerate() {
@@ -79,7 +80,7 @@ pub(crate) fn replay_failure(
     requires own { IsFirmWith (map raw_firm_of firms.now) firm (λ it. (x < 2 ^ it.count) × (y < 2 ^ it.count)
         × IfSome at (λ k. k < it.count)) }
     ensures replays { (trades : List Ends)
-        → Replays (map raw_firm_of firms.now) trades (Claim.ExchangeFails firm x y at) (in_trades trades result) }
+        → Replays (map raw_firm_of firms.now) trades (on_firms (FirmClaim.ExchangeFails firm x y at)) (in_trades trades result) }
     ensures small { HasSmallSurplus result }
 {
     if fails(&firms[firm as usize], x, y, at) {

@@ -21,4 +21,4 @@ mod utilities;
 
 pub use laws::{plans_bar_prices, refuted_is_not_valid};
 pub use replayed::Replayed;
-pub use replaying::{is_raw, replay, replay_raw};
+pub use replaying::{replay, replay_raw};

@@ -12,7 +12,8 @@ ghost use Rattle.tn_market.specs.Widths.{most_own, most_worth};
 ghost use Rattle.tn_said.specs.ClaimLimits.{IsOverWithin, IsPartWithin};
 ghost use Rattle.tn_model.specs.Limits.{most_claimed_over, most_firms, most_number, most_parts, most_planned_trades};
 ghost use Rattle.tn_model.specs.Network.{IsNetwork, own, part};
-ghost use Rattle.tn_said.specs.declared.claim.Claim.{Claim};
+ghost use Rattle.tn_said.specs.Claim.{on_firms};
+ghost use Rattle.tn_said.specs.declared.claim.FirmClaim.{FirmClaim};
 ghost use Rattle.tn_said.specs.declared.part.Part.{Part};
 
 use crate::exchange::positions_in;
@@ -320,7 +321,7 @@ pub(crate) fn replay_plan(
     requires within { All (IsPartWithin (map raw_firm_of firms.now)) plan.now }
     requires over { IsOverWithin over }
     ensures replays { IfOk result (λ replayed. Replays (map raw_firm_of firms.now) ends.now
-        (Claim.NoPrices plan.now over) (in_trades ends.now replayed)) }
+        (on_firms (FirmClaim.NoPrices plan.now over)) (in_trades ends.now replayed)) }
     ensures small { IfOk result HasSmallSurplus }
 {
     if let Some(firm) = first_above(firms.len() as u32, plan, over) {

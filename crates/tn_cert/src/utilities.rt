@@ -3,6 +3,7 @@
 ghost use Rattle.std.specs.Prelude.{◌≡◌, ◌^◌, ◌<◌, ◌≤◌, All, length, map};
 ghost use Rattle.tn_base.specs.Arcs.{IsAtMost};
 ghost use Rattle.tn_model.specs.Prices.{price_at};
+ghost use Rattle.tn_said.specs.Claim.{on_market};
 ghost use Rattle.tn_said.specs.ClaimLimits.{IsFirmWith};
 ghost use Rattle.tn_market.specs.Limits.{IsWithinLimits};
 ghost use Rattle.tn_cert.specs.Limits.{most_claimed_trades};
@@ -14,7 +15,7 @@ use crate::replayed::Replayed;
 use tn_base::{Bundle, Steps, TradeSet};
 use tn_market::{Arrangement, Market, Oracle, Valuation, utility_of};
 use tn_price::{own_prices, worth_at};
-use tn_said::{Claim, Reason};
+use tn_said::{MarketClaim, Reason};
 
 /// What firm `f` gains at an arrangement where it has another bundle in place of its own, None where one of the two is
 /// impossible.
@@ -53,7 +54,7 @@ pub(crate) fn replay_better<V: Oracle>(
     requires priced { length at.now.prices ≡ length market.now.trades }
     requires small_prices { All (λ p. IsAtMost p most_price) at.now.prices }
     requires own { IsFirmWith (map V.firm market.now.firms) firm (λ it. bundle < 2 ^ it.count) }
-    ensures { network_of V.firm market.now Replays (Claim.Better at.now firm bundle gain) result }
+    ensures { network_of V.firm market.now Replays (on_market (MarketClaim.Better at.now firm bundle gain)) result }
 {
     match gain_by(market, at, firm, bundle) {
         None => Replayed::Invalid(Reason::Impossible { firm }),
@@ -79,7 +80,7 @@ pub(crate) fn replay_impossible<V: Valuation>(
 ) -> Replayed
     requires few_trades { length market.now.trades ≤ most_claimed_trades }
     requires known { firm < length market.now.firms }
-    ensures { network_of V.firm market.now Replays (Claim.Impossible on.now firm) result }
+    ensures { network_of V.firm market.now Replays (on_market (MarketClaim.Impossible on.now firm)) result }
 {
     match worth_at(market, on, firm, steps) {
         None => Replayed::Valid,

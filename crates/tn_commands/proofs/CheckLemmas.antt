@@ -13,8 +13,9 @@ use Rattle.tn_firm.specs.Firms.{firm_of}
 use Rattle.tn_firm.specs.FirmLemmas.{firm_laws, firm_few}
 use Rattle.tn_cert.specs.Claims.{IsValid}
 use Rattle.tn_cert.proofs.PlanLaw.{plans_bar}
-use Rattle.tn_said.specs.declared.claim.Claim.{Claim}
-use Rattle.tn_said.specs.declared.claim.Claim.TheVariants.{Equilibrium as EquilibriumClaim, Better as BetterClaim, Impossible as ImpossibleClaim, Accepted as AcceptedClaim, ExchangeFails as ExchangeFailsClaim, Supported as SupportedClaim, Cycle as CycleClaim, Solved as SolvedClaim, Drops as DropsClaim, Completes as CompletesClaim, Blocks as BlocksClaim, NoPrices as NoPricesClaim}
+use Rattle.tn_said.specs.Claim.{Claim, on_market, on_firms}
+use Rattle.tn_said.specs.declared.claim.MarketClaim.TheVariants.{Equilibrium as EquilibriumClaim, Better as BetterClaim, Impossible as ImpossibleClaim, Supported as SupportedClaim, Cycle as CycleClaim, Solved as SolvedClaim, Drops as DropsClaim, Completes as CompletesClaim, Blocks as BlocksClaim}
+use Rattle.tn_said.specs.declared.claim.FirmClaim.TheVariants.{Accepted as AcceptedClaim, ExchangeFails as ExchangeFailsClaim, NoPrices as NoPricesClaim}
 use Rattle.tn_model.specs.declared.contract.Contract.{Contract}
 use Rattle.tn_model.specs.declared.contract.Outcome.{Outcome}
 use Rattle.tn_model.specs.declared.ends.Ends.{Ends}
@@ -145,26 +146,26 @@ completed_lasts firms trades over contracts prices network outcome completes = r
 -- what a valid claim implies
 pub claim_implies : (firms : List Firm) (trades : List Ends) (claim : Claim) → IsNetwork firms trades
     → IsClaimWithin firms trades claim → IsValid firms trades claim → ClaimImplies firms trades claim
-claim_implies firms trades (EquilibriumClaim at surplus) network within valid =
+claim_implies firms trades (on_market (EquilibriumClaim at surplus)) network within valid =
     implied_by firms trades at.on (price_at at.prices) network valid.0
-claim_implies firms trades (SolvedClaim at surplus) network within valid =
+claim_implies firms trades (on_market (SolvedClaim at surplus)) network within valid =
     implied_by firms trades at.on (price_at at.prices) network valid.0
-claim_implies firms trades (SupportedClaim on prices) network within valid =
+claim_implies firms trades (on_market (SupportedClaim on prices)) network within valid =
     implied_by firms trades on (price_at prices) network valid
-claim_implies firms trades (CompletesClaim outcome prices over) network within valid =
+claim_implies firms trades (on_market (CompletesClaim outcome prices over)) network within valid =
     completed_lasts firms trades outcome.over outcome.contracts (price_at prices) network (of_outcome outcome within.0)
     (subst (λ (o : ℤ). Completes firms trades o outcome.contracts (price_at prices)) valid.0 valid.1)
   where
     of_outcome : (o : Outcome) → IsOutcomeWithin (length trades) o → IsOutcomeOf trades o.over o.contracts
     of_outcome o within = record { least = within.least; most = within.most; contracts = within.contracts }
-claim_implies firms trades (BetterClaim at f x gain) network within valid = tt
-claim_implies firms trades (ImpossibleClaim on f) network within valid = tt
-claim_implies firms trades (CycleClaim on nodes cost) network within valid = tt
-claim_implies firms trades (DropsClaim outcome f keeps gain over) network within valid = tt
-claim_implies firms trades (BlocksClaim outcome contracts over) network within valid = tt
-claim_implies firms trades AcceptedClaim network within valid = tt
-claim_implies firms trades (ExchangeFailsClaim f x y at) network within valid = tt
-claim_implies firms trades (NoPricesClaim plan over) network within valid =
+claim_implies firms trades (on_market (BetterClaim at f x gain)) network within valid = tt
+claim_implies firms trades (on_market (ImpossibleClaim on f)) network within valid = tt
+claim_implies firms trades (on_market (CycleClaim on nodes cost)) network within valid = tt
+claim_implies firms trades (on_market (DropsClaim outcome f keeps gain over)) network within valid = tt
+claim_implies firms trades (on_market (BlocksClaim outcome contracts over)) network within valid = tt
+claim_implies firms trades (on_firms AcceptedClaim) network within valid = tt
+claim_implies firms trades (on_firms (ExchangeFailsClaim f x y at)) network within valid = tt
+claim_implies firms trades (on_firms (NoPricesClaim plan over)) network within valid =
     plans_bar.bars firms trades plan over network (λ k d below. from_zero (get_or plan k d).weight
     (within.1 k d below).1) valid
   where

@@ -16,8 +16,9 @@ use Rattle.tn_firm.specs.Firms.{firm_of}
 use Rattle.tn_firm.specs.FirmLemmas.{firm_few}
 use Rattle.tn_firm_laws.proofs.BoundLemmas.{times_small, sum_over_small}
 use Rattle.tn_firm_laws.proofs.KeepLemmas.{option_map-some}
-use Rattle.tn_said.specs.declared.claim.Claim.{Claim}
-use Rattle.tn_said.specs.declared.claim.Claim.TheVariants.{Equilibrium, Better, Impossible, Accepted, ExchangeFails, Supported, Cycle, Solved, Drops, Completes, Blocks, NoPrices}
+use Rattle.tn_said.specs.Claim.{Claim, on_market, on_firms}
+use Rattle.tn_said.specs.declared.claim.MarketClaim.TheVariants.{Equilibrium, Better, Impossible, Supported, Cycle, Solved, Drops, Completes, Blocks}
+use Rattle.tn_said.specs.declared.claim.FirmClaim.TheVariants.{Accepted, ExchangeFails, NoPrices}
 use Rattle.tn_model.specs.declared.contract.Outcome.{Outcome}
 use Rattle.tn_model.specs.declared.ends.Ends.{Ends}
 use Rattle.tn_said.specs.declared.reason.Reason.{Reason}
@@ -119,18 +120,18 @@ surplus_small : (firms : List FirmValue) (trades : List Ends) (claim : Claim) (t
 surplus_small firms trades claim told few refutes = by claim refutes
   where
     by : (c : Claim) → Refutes (map firm_of firms) trades c (Surplus told) → IsAtMost told most_number
-    by (Equilibrium at surplus) refutes = set_small firms trades at.on told few refutes.1
-    by (Solved at surplus) refutes = set_small firms trades at.on told few refutes.1
-    by (Supported on prices) refutes = absurd refutes
-    by (Better at f x gain) refutes = absurd refutes
-    by (Impossible on f) refutes = absurd refutes
-    by (Cycle on nodes cost) refutes = absurd refutes
-    by (Drops outcome f keeps gain over) refutes = absurd refutes
-    by (Completes outcome prices over) refutes = absurd refutes.2
-    by (Blocks outcome contracts over) refutes = absurd refutes
-    by Accepted refutes = absurd refutes
-    by (ExchangeFails f x y at) refutes = absurd refutes
-    by (NoPrices plan over) refutes = absurd refutes
+    by (on_market (Equilibrium at surplus)) refutes = set_small firms trades at.on told few refutes.1
+    by (on_market (Solved at surplus)) refutes = set_small firms trades at.on told few refutes.1
+    by (on_market (Supported on prices)) refutes = absurd refutes
+    by (on_market (Better at f x gain)) refutes = absurd refutes
+    by (on_market (Impossible on f)) refutes = absurd refutes
+    by (on_market (Cycle on nodes cost)) refutes = absurd refutes
+    by (on_market (Drops outcome f keeps gain over)) refutes = absurd refutes
+    by (on_market (Completes outcome prices over)) refutes = absurd refutes.2
+    by (on_market (Blocks outcome contracts over)) refutes = absurd refutes
+    by (on_firms Accepted) refutes = absurd refutes
+    by (on_firms (ExchangeFails f x y at)) refutes = absurd refutes
+    by (on_firms (NoPrices plan over)) refutes = absurd refutes
 
 -- the reason that a set of trades is worth as much as a plan
 whole_small : (firms : List FirmValue) (trades : List Ends) (claim : Claim) (listed : List ℕ) (told : ℤ)
@@ -139,18 +140,18 @@ whole_small : (firms : List FirmValue) (trades : List Ends) (claim : Claim) (lis
 whole_small firms trades claim listed told few refutes = by claim refutes
   where
     by : (c : Claim) → Refutes (map firm_of firms) trades c (Whole listed told) → IsAtMost told most_number
-    by (NoPrices plan over) refutes = let whole = refutes.3 in set_small firms trades whole.on told few whole.surplus_is
-    by (Equilibrium at surplus) refutes = absurd refutes
-    by (Solved at surplus) refutes = absurd refutes
-    by (Supported on prices) refutes = absurd refutes
-    by (Better at f x gain) refutes = absurd refutes
-    by (Impossible on f) refutes = absurd refutes
-    by (Cycle on nodes cost) refutes = absurd refutes
-    by (Drops outcome f keeps gain over) refutes = absurd refutes
-    by (Completes outcome prices over) refutes = absurd refutes.2
-    by (Blocks outcome contracts over) refutes = absurd refutes
-    by Accepted refutes = absurd refutes
-    by (ExchangeFails f x y at) refutes = absurd refutes
+    by (on_firms (NoPrices plan over)) refutes = let whole = refutes.3 in set_small firms trades whole.on told few whole.surplus_is
+    by (on_market (Equilibrium at surplus)) refutes = absurd refutes
+    by (on_market (Solved at surplus)) refutes = absurd refutes
+    by (on_market (Supported on prices)) refutes = absurd refutes
+    by (on_market (Better at f x gain)) refutes = absurd refutes
+    by (on_market (Impossible on f)) refutes = absurd refutes
+    by (on_market (Cycle on nodes cost)) refutes = absurd refutes
+    by (on_market (Drops outcome f keeps gain over)) refutes = absurd refutes
+    by (on_market (Completes outcome prices over)) refutes = absurd refutes.2
+    by (on_market (Blocks outcome contracts over)) refutes = absurd refutes
+    by (on_firms Accepted) refutes = absurd refutes
+    by (on_firms (ExchangeFails f x y at)) refutes = absurd refutes
 
 -- the reason that a gain is another one
 gain_small : (firms : List FirmValue) (trades : List Ends) (claim : Claim) (g : ℕ) (told : ℤ)
@@ -160,23 +161,23 @@ gain_small firms trades claim g told within refutes = by claim within refutes
   where
     by : (c : Claim) → IsClaimWithin (map firm_of firms) trades c
         → Refutes (map firm_of firms) trades c (Gain g (Some told)) → IsAtMost told most_number
-    by (Better at f x gain) within refutes =
+    by (on_market (Better at f x gain)) within refutes =
         gains_small firms trades (pos 1) (price_at at.prices) f refutes.1.0 x (part trades f refutes.1.0.count at.on)
         told refutes.1.1 one_small (λ t. price_small at.prices t most_price within.1.small) refutes.1.2
-    by (Drops outcome f keeps gain over) within refutes =
+    by (on_market (Drops outcome f keeps gain over)) within refutes =
         gains_small firms trades outcome.over (signed_price outcome.contracts) f refutes.3.0 keeps
         (signed_bundle trades outcome.contracts f refutes.3.0) told refutes.3.1
         (over_small (length trades) outcome within.0) (signed_small (length trades) outcome within.0) refutes.3.2
-    by (Equilibrium at surplus) within refutes = absurd refutes
-    by (Solved at surplus) within refutes = absurd refutes
-    by (Supported on prices) within refutes = absurd refutes
-    by (Impossible on f) within refutes = absurd refutes
-    by (Cycle on nodes cost) within refutes = absurd refutes
-    by (Completes outcome prices over) within refutes = absurd refutes.2
-    by (Blocks outcome contracts over) within refutes = absurd refutes
-    by Accepted within refutes = absurd refutes
-    by (ExchangeFails f x y at) within refutes = absurd refutes
-    by (NoPrices plan over) within refutes = absurd refutes
+    by (on_market (Equilibrium at surplus)) within refutes = absurd refutes
+    by (on_market (Solved at surplus)) within refutes = absurd refutes
+    by (on_market (Supported on prices)) within refutes = absurd refutes
+    by (on_market (Impossible on f)) within refutes = absurd refutes
+    by (on_market (Cycle on nodes cost)) within refutes = absurd refutes
+    by (on_market (Completes outcome prices over)) within refutes = absurd refutes.2
+    by (on_market (Blocks outcome contracts over)) within refutes = absurd refutes
+    by (on_firms Accepted) within refutes = absurd refutes
+    by (on_firms (ExchangeFails f x y at)) within refutes = absurd refutes
+    by (on_firms (NoPrices plan over)) within refutes = absurd refutes
 
 -- the reason that a node has no arc to the next one
 arc_small : (firms : List Firm) (trades : List Ends) (claim : Claim) (index : ℕ) → IsClaimWithin firms trades claim
@@ -184,23 +185,23 @@ arc_small : (firms : List Firm) (trades : List Ends) (claim : Claim) (index : �
 arc_small firms trades claim index within refutes = by claim within refutes
   where
     by : (c : Claim) → IsClaimWithin firms trades c → Refutes firms trades c (Arc index) → index < 2 ^ 32
-    by (Cycle on nodes cost) within refutes =
+    by (on_market (Cycle on nodes cost)) within refutes =
         let below = refutes.1.within in
         let same : length (map (node_of (length trades)) nodes) ≡ length nodes =
         length-map nodes (node_of (length trades)) in
         let few = within.1.most in
         omega (arith, below, same, few)
-    by (Equilibrium at surplus) within refutes = absurd refutes
-    by (Solved at surplus) within refutes = absurd refutes
-    by (Supported on prices) within refutes = absurd refutes
-    by (Better at f x gain) within refutes = absurd refutes
-    by (Impossible on f) within refutes = absurd refutes
-    by (Drops outcome f keeps gain over) within refutes = absurd refutes
-    by (Completes outcome prices over) within refutes = absurd refutes.2
-    by (Blocks outcome contracts over) within refutes = absurd refutes
-    by Accepted within refutes = absurd refutes
-    by (ExchangeFails f x y at) within refutes = absurd refutes
-    by (NoPrices plan over) within refutes = absurd refutes
+    by (on_market (Equilibrium at surplus)) within refutes = absurd refutes
+    by (on_market (Solved at surplus)) within refutes = absurd refutes
+    by (on_market (Supported on prices)) within refutes = absurd refutes
+    by (on_market (Better at f x gain)) within refutes = absurd refutes
+    by (on_market (Impossible on f)) within refutes = absurd refutes
+    by (on_market (Drops outcome f keeps gain over)) within refutes = absurd refutes
+    by (on_market (Completes outcome prices over)) within refutes = absurd refutes.2
+    by (on_market (Blocks outcome contracts over)) within refutes = absurd refutes
+    by (on_firms Accepted) within refutes = absurd refutes
+    by (on_firms (ExchangeFails f x y at)) within refutes = absurd refutes
+    by (on_firms (NoPrices plan over)) within refutes = absurd refutes
 
 -- the reason that a cost is another one
 cost_small : (firms : List FirmValue) (trades : List Ends) (claim : Claim) (told : ℤ)
@@ -210,23 +211,23 @@ cost_small firms trades claim told network within refutes = by claim within refu
   where
     by : (c : Claim) → IsClaimWithin (map firm_of firms) trades c → Refutes (map firm_of firms) trades c (Cost told)
         → IsAtMost told most_number
-    by (Cycle on nodes cost) within refutes =
+    by (on_market (Cycle on nodes cost)) within refutes =
         let same : length (map (node_of (length trades)) nodes) ≡ length nodes =
         length-map nodes (node_of (length trades)) in
         let few = within.1.most in
         round_small firms trades on (map (node_of (length trades)) nodes) told network (omega (arith, same, few))
         refutes.1
-    by (Equilibrium at surplus) within refutes = absurd refutes
-    by (Solved at surplus) within refutes = absurd refutes
-    by (Supported on prices) within refutes = absurd refutes
-    by (Better at f x gain) within refutes = absurd refutes
-    by (Impossible on f) within refutes = absurd refutes
-    by (Drops outcome f keeps gain over) within refutes = absurd refutes
-    by (Completes outcome prices over) within refutes = absurd refutes.2
-    by (Blocks outcome contracts over) within refutes = absurd refutes
-    by Accepted within refutes = absurd refutes
-    by (ExchangeFails f x y at) within refutes = absurd refutes
-    by (NoPrices plan over) within refutes = absurd refutes
+    by (on_market (Equilibrium at surplus)) within refutes = absurd refutes
+    by (on_market (Solved at surplus)) within refutes = absurd refutes
+    by (on_market (Supported on prices)) within refutes = absurd refutes
+    by (on_market (Better at f x gain)) within refutes = absurd refutes
+    by (on_market (Impossible on f)) within refutes = absurd refutes
+    by (on_market (Drops outcome f keeps gain over)) within refutes = absurd refutes
+    by (on_market (Completes outcome prices over)) within refutes = absurd refutes.2
+    by (on_market (Blocks outcome contracts over)) within refutes = absurd refutes
+    by (on_firms Accepted) within refutes = absurd refutes
+    by (on_firms (ExchangeFails f x y at)) within refutes = absurd refutes
+    by (on_firms (NoPrices plan over)) within refutes = absurd refutes
 
 -- the reason that a denominator is another one
 told_over_small : (firms : List Firm) (trades : List Ends) (claim : Claim) (told : ℤ) → IsClaimWithin firms trades claim
@@ -239,18 +240,18 @@ told_over_small firms trades claim told within refutes = by claim within refutes
         record { low = omega (arith, ints, least, e); high = omega (arith, ints, most, e) }
 
     by : (c : Claim) → IsClaimWithin firms trades c → Refutes firms trades c (Over told) → IsAtMost told most_number
-    by (Drops outcome f keeps gain over) within refutes = fits outcome within.0 refutes.0
-    by (Completes outcome prices over) within refutes = fits outcome within.0 refutes.0
-    by (Equilibrium at surplus) within refutes = absurd refutes
-    by (Solved at surplus) within refutes = absurd refutes
-    by (Supported on prices) within refutes = absurd refutes
-    by (Better at f x gain) within refutes = absurd refutes
-    by (Impossible on f) within refutes = absurd refutes
-    by (Cycle on nodes cost) within refutes = absurd refutes
-    by (Blocks outcome contracts over) within refutes = absurd refutes
-    by Accepted within refutes = absurd refutes
-    by (ExchangeFails f x y at) within refutes = absurd refutes
-    by (NoPrices plan over) within refutes = absurd refutes
+    by (on_market (Drops outcome f keeps gain over)) within refutes = fits outcome within.0 refutes.0
+    by (on_market (Completes outcome prices over)) within refutes = fits outcome within.0 refutes.0
+    by (on_market (Equilibrium at surplus)) within refutes = absurd refutes
+    by (on_market (Solved at surplus)) within refutes = absurd refutes
+    by (on_market (Supported on prices)) within refutes = absurd refutes
+    by (on_market (Better at f x gain)) within refutes = absurd refutes
+    by (on_market (Impossible on f)) within refutes = absurd refutes
+    by (on_market (Cycle on nodes cost)) within refutes = absurd refutes
+    by (on_market (Blocks outcome contracts over)) within refutes = absurd refutes
+    by (on_firms Accepted) within refutes = absurd refutes
+    by (on_firms (ExchangeFails f x y at)) within refutes = absurd refutes
+    by (on_firms (NoPrices plan over)) within refutes = absurd refutes
 
 -- the numbers of the reason against a claim within the limits
 pub reason_small : (firms : List FirmValue) (trades : List Ends) (claim : Claim) (reason : Reason)

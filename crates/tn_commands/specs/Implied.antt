@@ -1,8 +1,9 @@
 -- What an equilibrium implies, and a plan against prices.
 use Rattle.std.specs.Prelude.{ℕ, ℤ, pos, List, length}
 use Rattle.tn_base.specs.Firm.{Firm}
-use Rattle.tn_said.specs.declared.claim.Claim.{Claim}
-use Rattle.tn_said.specs.declared.claim.Claim.TheVariants.{Equilibrium, Supported, Solved, Completes, NoPrices}
+use Rattle.tn_said.specs.Claim.{Claim, on_market, on_firms}
+use Rattle.tn_said.specs.declared.claim.MarketClaim.TheVariants.{Equilibrium, Supported, Solved, Completes}
+use Rattle.tn_said.specs.declared.claim.FirmClaim.TheVariants.{NoPrices}
 use Rattle.tn_model.specs.declared.contract.Contract.{Contract}
 use Rattle.tn_model.specs.declared.ends.Ends.{Ends}
 use Rattle.tn_model.specs.Prices.{price_at}
@@ -26,9 +27,9 @@ pub record IsLastingOutcome (firms : List Firm) (trades : List Ends) (over : ℤ
 -- what a claim implies where it is valid: that of an equilibrium, a solution or prices for its trades, that of a
 -- completed outcome for this, and that no prices over any denominator make a set of trades an equilibrium
 abbrev pub ClaimImplies : List Firm → List Ends → Claim → Type 0
-ClaimImplies firms trades (Equilibrium at surplus) = IsEfficientAndStable firms trades at.on (price_at at.prices)
-ClaimImplies firms trades (Solved at surplus) = IsEfficientAndStable firms trades at.on (price_at at.prices)
-ClaimImplies firms trades (Supported on prices) = IsEfficientAndStable firms trades on (price_at prices)
-ClaimImplies firms trades (Completes outcome prices over) = IsLastingOutcome firms trades outcome.over outcome.contracts
-ClaimImplies firms trades (NoPrices plan over) = HaveNoPrices firms trades
+ClaimImplies firms trades (on_market (Equilibrium at surplus)) = IsEfficientAndStable firms trades at.on (price_at at.prices)
+ClaimImplies firms trades (on_market (Solved at surplus)) = IsEfficientAndStable firms trades at.on (price_at at.prices)
+ClaimImplies firms trades (on_market (Supported on prices)) = IsEfficientAndStable firms trades on (price_at prices)
+ClaimImplies firms trades (on_market (Completes outcome prices over)) = IsLastingOutcome firms trades outcome.over outcome.contracts
+ClaimImplies firms trades (on_firms (NoPrices plan over)) = HaveNoPrices firms trades
 ClaimImplies firms trades claim = Unit {0}

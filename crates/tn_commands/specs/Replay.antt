@@ -3,7 +3,7 @@ use Rattle.std.specs.Prelude.{List}
 use Rattle.tn_base.specs.Firm.{Firm}
 use Rattle.tn_cert.specs.Claims.{IsValid}
 use Rattle.tn_cert.specs.Reasons.{Refutes}
-use Rattle.tn_said.specs.declared.claim.Claim.{Claim}
+use Rattle.tn_said.specs.Claim.{Claim}
 use Rattle.tn_model.specs.declared.ends.Ends.{Ends}
 use Rattle.tn_said.specs.declared.said.Said.{Said}
 use Rattle.tn_said.specs.declared.said.Said.TheVariants.{Valid, Invalid}

@@ -28,7 +28,7 @@ use Rattle.tn_model.specs.Limits.{limits_of, most_worth_among, worth_limit}
 use Rattle.tn_model.specs.declared.limits.Limits.{Limits}
 use Rattle.tn_model.specs.Network.{IsNetwork}
 use Rattle.tn_model.specs.OutcomeLimits.{IsOutcomeWithin}
-use Rattle.tn_read_claims.specs.Claimed.{claim_of, claims_raw, is_raw_kind, kind_is}
+use Rattle.tn_read_claims.specs.Claimed.{claim_of, claims_raw}
 use Rattle.tn_read_claims.proofs.ClaimLeads.{claim_leads}
 use Rattle.tn_read_claims.proofs.KindLeads.{claims_keep_limits, raw_claims_are_told}
 use Rattle.tn_read_claims.specs.Laws.{KeepsClaimLimits}
@@ -42,7 +42,7 @@ use Rattle.tn_file.specs.Parts.{AreFor, AreTested, parts_view}
 use Rattle.tn_file.specs.declared.network.Parts.{Parts}
 use Rattle.tn_file.specs.declared.network.Parts.TheVariants.{Market as MarketParts, Raw as RawParts}
 use Rattle.tn_firm.specs.Firms.{firm_of}
-use Rattle.tn_said.specs.declared.claim.Claim.{Claim as ClaimIs}
+use Rattle.tn_said.specs.Claim.{Claim as ClaimIs, is_raw}
 use Rattle.tn_file.specs.declared.document.Document.{Document}
 use Rattle.tn_file.specs.Laws.{IsDocument, IsDocumentOf, IsExtra, KeepsLimits, DocumentsAreNetworks}
 use Rattle.tn_read_shapes.proofs.LeadLemmas.{Leads, leads_ok, leads_as, leads_bind, leads_after, leads_both, leads_wanted}
@@ -136,7 +136,7 @@ accepted_leads Support listed top = record { at = λ extra e. refl }
 accepted_leads Judge listed top = record { at = λ extra e. refl }
 accepted_leads Session listed top = record { at = λ extra e. refl }
 accepted_leads Replay listed top =
-    leads_bind (λ read. claims_raw top ≡ is_raw_kind (kind_is read)) (λ extra. is_accepted Replay extra ≡ is_tested Replay top)
+    leads_bind (λ read. claims_raw top ≡ is_raw read) (λ extra. is_accepted Replay extra ≡ is_tested Replay top)
     (claim_of listed top) _ (record { at = raw_claims_are_told listed top }) (λ read told.
     leads_ok (λ extra. is_accepted Replay extra ≡ is_tested Replay top) (claim read) (ap not (sym told)))
 

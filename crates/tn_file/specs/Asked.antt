@@ -1,4 +1,5 @@
 -- What is asked about a network: its command, and the part of the document that it speaks of.
+use Rattle.tn_said.specs.Claim.{on_market, on_firms}
 use Rattle.tn_file.specs.declared.asked.Asked.{Asked}
 use Rattle.tn_file.specs.declared.asked.Asked.TheVariants.{Check, Judge, Range, Replay, Session, Solve, Support}
 use Rattle.tn_file.specs.declared.asked.RawAsked.{RawAsked}
@@ -20,7 +21,7 @@ abbrev pub part_of : Asked → ExtraData
 part_of (Check at) = arrangement (record { on = at.on; prices = at.prices })
 part_of (Judge signed) = outcome signed
 part_of Range = nothing
-part_of (Replay read) = claim read
+part_of (Replay read) = claim (on_market read)
 part_of (Session listed) = edits listed
 part_of Solve = nothing
 part_of (Support on) = on_alone on
@@ -32,5 +33,5 @@ raw_asked_by Test = TestIs
 
 abbrev pub raw_part_of : RawAsked → ExtraData
 raw_part_of (Firms at) = arrangement (record { on = at.on; prices = at.prices })
-raw_part_of (RawReplay read) = claim read
+raw_part_of (RawReplay read) = claim (on_firms read)
 raw_part_of Test = nothing

@@ -3,7 +3,7 @@ use Rattle.std.specs.Prelude.{ℕ, [], List, Bool, true, false, not, Result, Ok}
 use Rattle.serde_json.specs.Data.{Data, Items}
 use Rattle.tn_said.specs.declared.fault.FaultKind.TheVariants.{NotJson}
 use Rattle.tn_base.specs.Firm.{Firm}
-use Rattle.tn_said.specs.declared.claim.Claim.{Claim as ClaimIs}
+use Rattle.tn_said.specs.Claim.{Claim as ClaimIs, is_raw}
 use Rattle.tn_model.specs.declared.contract.Outcome.{Outcome as OutcomeIs}
 use Rattle.tn_model.specs.declared.ends.Ends.{Ends}
 use Rattle.tn_said.specs.declared.said.Fault.{Fault}
@@ -19,7 +19,7 @@ use Rattle.tn_read_firms.specs.Firms.{one_firm}
 use Rattle.tn_read_parts.specs.Arranged.{Arranged, arrangement_of, trades_on_of}
 use Rattle.tn_read_parts.specs.Signed.{outcome_of}
 use Rattle.tn_read_parts.specs.Edited.{edits_of}
-use Rattle.tn_read_claims.specs.Claimed.{claim_of, claims_raw, is_raw_kind, kind_is}
+use Rattle.tn_read_claims.specs.Claimed.{claim_of, claims_raw}
 use Rattle.tn_read_head.specs.Listing.{listed_of}
 
 -- what is read beside the network
@@ -42,7 +42,7 @@ is_tested command top = true
 
 -- whether a claim was read that is made of firms which meet exchange
 abbrev pub claims_market : ExtraData → Bool
-claims_market (claim read) = not (is_raw_kind (kind_is read))
+claims_market (claim read) = not (is_raw read)
 claims_market extra = false
 
 -- each firm has met exchange, by the command and what was read beside the network

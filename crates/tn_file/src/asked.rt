@@ -2,7 +2,7 @@
 
 use tn_base::TradeSet;
 use tn_market::{Arrangement, Outcome};
-use tn_said::{Claim, Edits};
+use tn_said::{Edits, FirmClaim, MarketClaim};
 
 /// What is asked about firms that meet exchange, by its command.
 #[derive(Drop)]
@@ -14,7 +14,7 @@ pub enum Asked {
     /// How far each price may move.
     Range,
     /// Whether the claim is so.
-    Replay(Claim),
+    Replay(MarketClaim),
     /// An equilibrium after each of the edits.
     Session(Edits),
     /// An equilibrium.
@@ -28,8 +28,8 @@ pub enum Asked {
 pub enum RawAsked {
     /// What each firm has in the arrangement.
     Firms(Arrangement<16>),
-    /// Whether the claim is so, which is one on exchange or that there are no prices.
-    Replay(Claim),
+    /// Whether the claim is so.
+    Replay(FirmClaim),
     /// Whether they meet exchange.
     Test,
 }

@@ -5,6 +5,7 @@ ghost use Rattle.serde_json.specs.View.{view, items_view};
 ghost use Rattle.tn_read_shapes.specs.Reading.{Gives};
 ghost use Rattle.tn_read_references.specs.Ordered.{AreTrades};
 ghost use Rattle.tn_read_head.specs.Refused.{Reads, refusal_of};
+ghost use Rattle.tn_file.specs.declared.command.Command.TheVariants.{Replay};
 ghost use Rattle.tn_file.specs.Document.{content_of, document_of};
 ghost use Rattle.tn_file.specs.Parts.{AreFor, parts_view};
 ghost use Rattle.tn_file.specs.Refusal.{IsFor, document_view};
@@ -16,12 +17,12 @@ use serde_json::Value;
 use std::alloc::Global;
 use tn_firm::{FirmValue, RawFirm};
 use tn_market::Market;
-use tn_read_claims::{claims_raw, read_claim};
+use tn_read_claims::{named_claim, read_firm_claim, read_market_claim};
 use tn_read_firms::read_firms;
 use tn_read_head::{DocRefusal, read_head};
 use tn_read_parts::{read_arrangement, read_edits, read_outcome, read_trades_on};
 use tn_read_references::Head;
-use tn_read_shapes::ReadError;
+use tn_read_shapes::{ClaimKind, ReadError};
 
 /// What stands in a document behind its head: the firms, and what is asked about them.
 #[derive(Drop)]
@@ -104,17 +105,7 @@ fn read_parts(
             Ok(Parts::Market(made, Asked::Judge(outcome)))
         }
         Command::Range => Ok(Parts::Market(read_firms(alloc, head, firms)?, Asked::Range)),
-        Command::Replay => {
-            if claims_raw(top) {
-                let made = read_firms(alloc, head, firms)?;
-                let claim = read_claim(alloc, head, top)?;
-                Ok(Parts::Raw(made, RawAsked::Replay(claim)))
-            } else {
-                let made = read_firms(alloc, head, firms)?;
-                let claim = read_claim(alloc, head, top)?;
-                Ok(Parts::Market(made, Asked::Replay(claim)))
-            }
-        }
+        Command::Replay => read_claimed(alloc, head, firms, top),
         Command::Session => {
             let made = read_firms(alloc, head, firms)?;
             Ok(Parts::Market(made, Asked::Session(read_edits(alloc, head, top)?)))
@@ -125,5 +116,38 @@ fn read_parts(
             Ok(Parts::Market(made, Asked::Support(read_trades_on(alloc, head, top)?)))
         }
         Command::Test => Ok(Parts::Raw(read_firms(alloc, head, firms)?, RawAsked::Test)),
+    }
+}
+
+/// The firms, and then the claim of the document. Each firm is to meet exchange, unless the claim is one on firms as
+/// they are listed.
+#[tactic(auto, unfolding(crate::specs::Document::content_of, crate::specs::Document::extra_of, tn_read_claims::specs::Claimed::claim_of))]
+fn read_claimed(
+    alloc: Global,
+    head: &Head,
+    firms: &[Value],
+    top: &Value,
+) -> Result<Parts, ReadError>
+    requires trades { AreTrades head.now }
+    requires count { length head.now.names.firms ≡ length firms.now }
+    ensures gives { Gives parts_view result (content_of Replay head.now (items_view firms.now) (view top.now)) }
+    ensures asked { IfOk result (AreFor Replay) }
+{
+    match named_claim(alloc, top) {
+        Ok((ClaimKind::OnMarket(kind), claim)) => {
+            let made = read_firms(alloc, head, firms)?;
+            let claim = read_market_claim(alloc, head, kind, top, claim)?;
+            Ok(Parts::Market(made, Asked::Replay(claim)))
+        }
+        Ok((ClaimKind::OnFirms(kind), claim)) => {
+            let made = read_firms(alloc, head, firms)?;
+            let claim = read_firm_claim(alloc, head, kind, claim)?;
+            Ok(Parts::Raw(made, RawAsked::Replay(claim)))
+        }
+        Err(error) => {
+            let made: Vec<FirmValue> = read_firms(alloc, head, firms)?;
+            drop(made);
+            Err(error)
+        }
     }
 }

@@ -15,10 +15,14 @@ use Rattle.tn_said.specs.declared.place.PlaceStep.TheVariants.{Key}
 use Rattle.tn_said.specs.declared.place.Word.TheVariants.{At, Bundle, Contracts, Cost, Edits as EditsWord, Gain, Keeps, Nodes, Over, Prices, Surplus, X, Y}
 use Rattle.tn_said.specs.declared.said.Fault.{Fault}
 use Rattle.tn_read_shapes.specs.declared.claims.ClaimKind.{ClaimKind}
-use Rattle.tn_read_shapes.specs.declared.claims.ClaimKind.TheVariants.{Equilibrium as EquilibriumKind, Better as BetterKind, Impossible as ImpossibleKind, Accepted as AcceptedKind, ExchangeFails as ExchangeFailsKind, Supported as SupportedKind, Cycle as CycleKind, Solved as SolvedKind, Drops as DropsKind, Completes as CompletesKind, Blocks as BlocksKind, NoPrices as NoPricesKind}
+use Rattle.tn_read_shapes.specs.declared.claims.ClaimKind.TheVariants.{OnMarket, OnFirms}
+use Rattle.tn_read_shapes.specs.declared.claims.FirmClaimKind.{FirmClaimKind}
+use Rattle.tn_read_shapes.specs.declared.claims.FirmClaimKind.TheVariants.{Accepted as AcceptedKind, ExchangeFails as ExchangeFailsKind, NoPrices as NoPricesKind}
+use Rattle.tn_read_shapes.specs.declared.claims.MarketClaimKind.{MarketClaimKind}
+use Rattle.tn_read_shapes.specs.declared.claims.MarketClaimKind.TheVariants.{Equilibrium as EquilibriumKind, Better as BetterKind, Impossible as ImpossibleKind, Supported as SupportedKind, Cycle as CycleKind, Solved as SolvedKind, Drops as DropsKind, Completes as CompletesKind, Blocks as BlocksKind}
 use Rattle.tn_read_shapes.specs.declared.members.ObjectKind.TheVariants.{Outcome as OutcomeObject}
 use Rattle.tn_read_shapes.specs.Reading.{wanted}
-use Rattle.tn_read_shapes.specs.Shapes.{list_at, object_at, object_of, three_at, whole_at}
+use Rattle.tn_read_shapes.specs.Shapes.{list_at, object_of, three_at, whole_at}
 use Rattle.tn_read_references.specs.Entries.{Numbered}
 use Rattle.tn_read_references.specs.Ordered.{Listed}
 use Rattle.tn_read_references.specs.References.{new_trade}
@@ -26,8 +30,8 @@ use Rattle.tn_read_parts.specs.Arranged.{arrangement_of, on_of, prices_place, tr
 use Rattle.tn_read_parts.specs.Edited.{edits_of}
 use Rattle.tn_read_parts.specs.Lists.{contracts_at, named_prices, one_price, prices_of}
 use Rattle.tn_read_parts.specs.Signed.{contracts_place, outcome_of, outcome_place, over_place}
-use Rattle.tn_read_claims.specs.Claimed.{blocks_of, better_of, claim_by, claim_of, completes_of, cycle_of, drops_of, equilibrium_of, failure_of, frame_of, impossible_of, kind_of, no_prices_of, solved_of, supported_of}
-use Rattle.tn_read_claims.specs.Members.{Offered, claim_place, claimed_contracts, claimed_firm, claimed_nodes, claimed_on, claimed_over, claimed_prices, gain_or_null, member_place, no_offers, one_offer, own_or_null, unless_null}
+use Rattle.tn_read_claims.specs.Claimed.{better_of, blocks_of, claim_by, claim_of, completes_of, cycle_of, drops_of, equilibrium_of, failure_of, firm_claim_by, frame_of, impossible_of, market_claim_by, named_claim, no_prices_of, solved_of, supported_of}
+use Rattle.tn_read_claims.specs.Members.{Offered, claimed_contracts, claimed_firm, claimed_nodes, claimed_on, claimed_over, claimed_prices, gain_or_null, member_place, no_offers, one_offer, own_or_null, unless_null}
 use Rattle.tn_read_claims.specs.Planned.{claimed_plan, in_part, one_part, part_at, part_of, plan_weight_at}
 use Rattle.tn_format_laws.proofs.MeetLemmas.{Agree, after, all, equal, few_agree, next, number_agrees, over_agrees, range_agrees, same}
 use Rattle.tn_format_laws.proofs.ReferenceLemmas as references
@@ -190,7 +194,7 @@ module _ (names : NameLists) (ends : List Ends) (a b : Limits) where
       unfolding equilibrium_of
       equilibrium_agrees =
           next _ _ _ _ arrangement_agrees (λ at.
-          after (frame_of EquilibriumKind claim) _ _ (λ frame.
+          after (frame_of (OnMarket EquilibriumKind) claim) _ _ (λ frame.
           next _ _ _ _ (number_agrees a.number b.number (member_place Surplus) (get (codes "surplus") claim))
           (λ surplus. same _)))
 
@@ -198,7 +202,7 @@ module _ (names : NameLists) (ends : List Ends) (a b : Limits) where
       unfolding better_of
       better_agrees =
           next _ _ _ _ arrangement_agrees (λ at.
-          after (frame_of BetterKind claim) _ _ (λ frame.
+          after (frame_of (OnMarket BetterKind) claim) _ _ (λ frame.
           after (claimed_firm names.firms claim) _ _ (λ firm.
           next _ _ _ _ (references.bundle_agrees names ends a b firm (member_place Bundle) (get (codes "bundle") claim))
           (λ bundle.
@@ -212,7 +216,7 @@ module _ (names : NameLists) (ends : List Ends) (a b : Limits) where
       failure_agrees : Agree (failure_of here claim) (failure_of there claim)
       unfolding failure_of
       failure_agrees =
-          after (frame_of ExchangeFailsKind claim) _ _ (λ frame.
+          after (frame_of (OnFirms ExchangeFailsKind) claim) _ _ (λ frame.
           after (claimed_firm names.firms claim) _ _ (λ firm.
           next _ _ _ _ (own_agrees firm (member_place At) (get (codes "at") claim)) (λ at.
           next _ _ _ _ (references.bundle_agrees names ends a b firm (member_place X) (get (codes "x") claim)) (λ x.
@@ -223,21 +227,21 @@ module _ (names : NameLists) (ends : List Ends) (a b : Limits) where
       unfolding supported_of
       supported_agrees =
           next _ _ _ _ on_agrees (λ on.
-          after (frame_of SupportedKind claim) _ _ (λ frame.
+          after (frame_of (OnMarket SupportedKind) claim) _ _ (λ frame.
           next _ _ _ _ (claimed_agree claim) (λ prices. same _)))
 
       cycle_agrees : Agree (cycle_of here top claim) (cycle_of there other claim)
       unfolding cycle_of
       cycle_agrees =
           next _ _ _ _ on_agrees (λ on.
-          after (frame_of CycleKind claim) _ _ (λ frame.
+          after (frame_of (OnMarket CycleKind) claim) _ _ (λ frame.
           next _ _ _ _ (number_agrees a.number b.number (member_place Cost) (get (codes "cost") claim)) (λ cost.
           next _ _ _ _ (nodes_agree claim) (λ nodes. same _))))
 
       solved_agrees : Agree (solved_of here claim) (solved_of there claim)
       unfolding solved_of
       solved_agrees =
-          after (frame_of SolvedKind claim) _ _ (λ frame.
+          after (frame_of (OnMarket SolvedKind) claim) _ _ (λ frame.
           after (claimed_on names.trades claim) _ _ (λ on.
           next _ _ _ _ (claimed_agree claim) (λ prices.
           next _ _ _ _ (number_agrees a.number b.number (member_place Surplus) (get (codes "surplus") claim))
@@ -247,7 +251,7 @@ module _ (names : NameLists) (ends : List Ends) (a b : Limits) where
       unfolding drops_of
       drops_agrees =
           next _ _ _ _ outcome_agrees (λ outcome.
-          after (frame_of DropsKind claim) _ _ (λ frame.
+          after (frame_of (OnMarket DropsKind) claim) _ _ (λ frame.
           after (claimed_firm names.firms claim) _ _ (λ firm.
           next _ _ _ _ (gain_agrees (get (codes "gain") claim)) (λ gain.
           next _ _ _ _ (references.bundle_agrees names ends a b firm (member_place Keeps) (get (codes "keeps") claim))
@@ -258,7 +262,7 @@ module _ (names : NameLists) (ends : List Ends) (a b : Limits) where
       unfolding completes_of
       completes_agrees =
           next _ _ _ _ outcome_agrees (λ outcome.
-          after (frame_of CompletesKind claim) _ _ (λ frame.
+          after (frame_of (OnMarket CompletesKind) claim) _ _ (λ frame.
           next _ _ _ _ (denominator_agrees claim) (λ over.
           next _ _ _ _ (claimed_agree claim) (λ prices. same _))))
 
@@ -266,7 +270,7 @@ module _ (names : NameLists) (ends : List Ends) (a b : Limits) where
       unfolding blocks_of
       blocks_agrees =
           next _ _ _ _ outcome_agrees (λ outcome.
-          after (frame_of BlocksKind claim) _ _ (λ frame.
+          after (frame_of (OnMarket BlocksKind) claim) _ _ (λ frame.
           next _ _ _ _ (offers_agree claim) (λ contracts.
           next _ _ _ _ (denominator_agrees claim) (λ over. same _))))
 
@@ -274,31 +278,36 @@ module _ (names : NameLists) (ends : List Ends) (a b : Limits) where
       unfolding no_prices_of
       no_prices_agrees =
           after _ _ _ (λ few.
-          after (frame_of NoPricesKind claim) _ _ (λ frame.
+          after (frame_of (OnFirms NoPricesKind) claim) _ _ (λ frame.
           next _ _ _ _ (denominator_agrees claim) (λ over.
           next _ _ _ _ (plan_agrees claim) (λ plan. same _))))
 
-      kind_agrees : (kind : ClaimKind) → Agree (claim_by here kind top claim) (claim_by there kind other claim)
-      kind_agrees EquilibriumKind = equilibrium_agrees
-      kind_agrees BetterKind = better_agrees
-      kind_agrees ImpossibleKind = impossible_agrees
-      kind_agrees AcceptedKind = same _
-      kind_agrees ExchangeFailsKind = failure_agrees
-      kind_agrees SupportedKind = supported_agrees
-      kind_agrees CycleKind = cycle_agrees
-      kind_agrees SolvedKind = solved_agrees
-      kind_agrees DropsKind = drops_agrees
-      kind_agrees CompletesKind = completes_agrees
-      kind_agrees BlocksKind = blocks_agrees
-      kind_agrees NoPricesKind = no_prices_agrees
+      market_kind_agrees : (kind : MarketClaimKind)
+          → Agree (market_claim_by here kind top claim) (market_claim_by there kind other claim)
+      market_kind_agrees EquilibriumKind = equilibrium_agrees
+      market_kind_agrees BetterKind = better_agrees
+      market_kind_agrees ImpossibleKind = impossible_agrees
+      market_kind_agrees SupportedKind = supported_agrees
+      market_kind_agrees CycleKind = cycle_agrees
+      market_kind_agrees SolvedKind = solved_agrees
+      market_kind_agrees DropsKind = drops_agrees
+      market_kind_agrees CompletesKind = completes_agrees
+      market_kind_agrees BlocksKind = blocks_agrees
 
-    claim_alike : wanted Shape claim_place (get (codes "claim") top)
-        ≡ wanted Shape claim_place (get (codes "claim") other)
-    claim_alike = rw (alike (codes "claim") refl)
+      firm_kind_agrees : (kind : FirmClaimKind)
+          → Agree (firm_claim_by here kind claim) (firm_claim_by there kind claim)
+      firm_kind_agrees AcceptedKind = same _
+      firm_kind_agrees ExchangeFailsKind = failure_agrees
+      firm_kind_agrees NoPricesKind = no_prices_agrees
+
+      kind_agrees : (kind : ClaimKind) → Agree (claim_by here kind top claim) (claim_by there kind other claim)
+      kind_agrees (OnMarket kind) = next _ _ _ _ (market_kind_agrees kind) (λ read. same _)
+      kind_agrees (OnFirms kind) = next _ _ _ _ (firm_kind_agrees kind) (λ read. same _)
+
+    named_alike : named_claim top ≡ named_claim other
+    unfolding named_claim
+    named_alike = rw (alike (codes "claim") refl)
 
     pub claim_agrees : Agree (claim_of here top) (claim_of there other)
     unfolding claim_of
-    claim_agrees =
-        next _ _ _ _ (equal _ _ claim_alike) (λ claim.
-        after (object_at claim_place (Some claim)) _ _ (λ object.
-        after (kind_of claim) _ _ (λ kind. kind_agrees claim kind)))
+    claim_agrees = next _ _ _ _ (equal _ _ named_alike) (λ named. kind_agrees named.1 named.0)

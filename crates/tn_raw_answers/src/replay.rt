@@ -1,11 +1,12 @@
 //! The answer of `replay` on firms that are read raw.
 
-ghost use Rattle.std.specs.Prelude.{◌≡◌, ◌≤◌, IfOk, length, map, true};
+ghost use Rattle.std.specs.Prelude.{◌≡◌, ◌≤◌, IfOk, length, map};
 ghost use Rattle.tn_answer.specs.Kept.{IsWithinClaims};
-ghost use Rattle.tn_cert.specs.Replays.{is_raw, reason_in};
+ghost use Rattle.tn_cert.specs.Replays.{reason_in};
 ghost use Rattle.tn_commands.specs.Replay.{DecidesClaim};
 ghost use Rattle.tn_firm.specs.Raw.{raw_firm_of};
 ghost use Rattle.tn_model.specs.Limits.{most_firms, most_trades};
+ghost use Rattle.tn_said.specs.Claim.{on_firms};
 ghost use Rattle.tn_said.specs.ClaimLimits.{IsClaimWithin};
 ghost use Rattle.tn_model.specs.Network.{IsNetwork, own};
 
@@ -14,7 +15,7 @@ use tn_base::OutOfMemory;
 use tn_cert::{Replayed, replay_raw};
 use tn_file::RawNet;
 use tn_market::Trades;
-use tn_said::{Claim, Reason, Said};
+use tn_said::{FirmClaim, Reason, Said};
 
 /// The trade at a position of firm `f`.
 fn own_trade(net: &RawNet, f: u32, k: u32) -> u32
@@ -62,13 +63,16 @@ fn reason_in(alloc: Global, net: &RawNet, reason: Reason) -> Result<Reason, OutO
 
 /// Whether a claim of the exchange property holds, or one that there are no prices, or else the first of its conditions
 /// that fails. There are at most 1,024 firms and 1,024 trades, and firms and trades fit together.
-pub fn answer_replay_raw(alloc: Global, net: &RawNet, claim: &Claim) -> Result<Said, OutOfMemory>
+pub fn answer_replay_raw(
+    alloc: Global,
+    net: &RawNet,
+    claim: &FirmClaim,
+) -> Result<Said, OutOfMemory>
     requires few_firms { length net.now.firms ≤ most_firms }
     requires few_trades { length net.now.ends ≤ most_trades }
     requires network { IsNetwork (map raw_firm_of net.now.firms) net.now.ends }
-    requires kind { is_raw claim.now ≡ true }
-    requires claim { IsClaimWithin (map raw_firm_of net.now.firms) net.now.ends claim.now }
-    ensures answer { IfOk result (DecidesClaim (map raw_firm_of net.now.firms) net.now.ends claim.now) }
+    requires claim { IsClaimWithin (map raw_firm_of net.now.firms) net.now.ends (on_firms claim.now) }
+    ensures answer { IfOk result (DecidesClaim (map raw_firm_of net.now.firms) net.now.ends (on_firms claim.now)) }
     ensures within { IfOk result IsWithinClaims }
 {
     match replay_raw(alloc, net.firms(), net.ends(), claim)? {

@@ -11,7 +11,9 @@ use Rattle.tn_said.specs.declared.fault.FaultKind.TheVariants.{Shape, UnknownFir
 use Rattle.tn_model.specs.Limits.{least_nodes, most_parts, most_planned_trades}
 use Rattle.tn_model.specs.Prices.{price_at}
 use Rattle.tn_model.specs.Choices.{contracts_of}
-use Rattle.tn_said.specs.declared.claim.Claim.TheVariants.{Equilibrium, Better, Impossible, Accepted, ExchangeFails, Supported, Cycle, Solved, Drops, Completes, Blocks, NoPrices}
+use Rattle.tn_said.specs.Claim.{on_market, on_firms}
+use Rattle.tn_said.specs.declared.claim.FirmClaim.TheVariants.{Accepted, ExchangeFails, NoPrices}
+use Rattle.tn_said.specs.declared.claim.MarketClaim.TheVariants.{Equilibrium, Better, Impossible, Supported, Cycle, Solved, Drops, Completes, Blocks}
 use Rattle.tn_said.specs.declared.part.Part.{Part}
 use Rattle.tn_said.specs.declared.place.PlaceStep.{PlaceStep}
 use Rattle.tn_said.specs.declared.place.PlaceStep.TheVariants.{Index, Trade, Key}
@@ -19,7 +21,11 @@ use Rattle.tn_said.specs.declared.place.Word.TheVariants.{Answer, Arrangement, A
 use Rattle.tn_said.specs.declared.said.Fault.{Fault}
 use Rattle.tn_names.specs.Names.{number_of}
 use Rattle.tn_read_shapes.specs.declared.claims.ClaimKind.{ClaimKind}
-use Rattle.tn_read_shapes.specs.declared.claims.ClaimKind.TheVariants.{Equilibrium as EquilibriumKind, Better as BetterKind, Impossible as ImpossibleKind, Accepted as AcceptedKind, ExchangeFails as ExchangeFailsKind, Supported as SupportedKind, Cycle as CycleKind, Solved as SolvedKind, Drops as DropsKind, Completes as CompletesKind, Blocks as BlocksKind, NoPrices as NoPricesKind}
+use Rattle.tn_read_shapes.specs.declared.claims.ClaimKind.TheVariants.{OnMarket, OnFirms}
+use Rattle.tn_read_shapes.specs.declared.claims.FirmClaimKind.{FirmClaimKind}
+use Rattle.tn_read_shapes.specs.declared.claims.FirmClaimKind.TheVariants.{Accepted as AcceptedKind, ExchangeFails as ExchangeFailsKind, NoPrices as NoPricesKind}
+use Rattle.tn_read_shapes.specs.declared.claims.MarketClaimKind.{MarketClaimKind}
+use Rattle.tn_read_shapes.specs.declared.claims.MarketClaimKind.TheVariants.{Equilibrium as EquilibriumKind, Better as BetterKind, Impossible as ImpossibleKind, Supported as SupportedKind, Cycle as CycleKind, Solved as SolvedKind, Drops as DropsKind, Completes as CompletesKind, Blocks as BlocksKind}
 use Rattle.tn_read_shapes.specs.declared.members.ObjectKind.{ObjectKind}
 use Rattle.tn_read_shapes.specs.declared.members.ObjectKind.TheVariants.{Arrangement as ArrangementObject, Outcome as OutcomeObject, Claim as ClaimObject}
 use Rattle.tn_read_shapes.specs.Claims.{claim_named}
@@ -33,7 +39,7 @@ use Rattle.tn_read_references.specs.References.{bundle_at, firm_at, new_own, new
 use Rattle.tn_read_parts.specs.Arranged.{arrangement_of, on_of, on_place, prices_place, trades_on_of}
 use Rattle.tn_read_parts.specs.Lists.{contracts_at, first_without, named_prices, one_on, one_price, price_of, prices_of, unless_missing}
 use Rattle.tn_read_parts.specs.Signed.{contracts_place, outcome_of, outcome_place, over_at, over_place}
-use Rattle.tn_read_claims.specs.Claimed.{accepted_of, better_of, blocks_of, claim_by, claim_of, completes_of, cycle_of, drops_of, equilibrium_of, failure_of, frame_of, impossible_of, kind_of, no_prices_of, solved_of, supported_of}
+use Rattle.tn_read_claims.specs.Claimed.{accepted_of, better_of, blocks_of, claim_by, claim_of, completes_of, cycle_of, drops_of, equilibrium_of, failure_of, firm_claim_by, frame_of, impossible_of, kind_of, market_claim_by, named_claim, no_prices_of, solved_of, supported_of}
 use Rattle.tn_read_claims.specs.Laws.{FaultsOfClaims, is_claim_fault}
 use Rattle.tn_read_claims.specs.Members.{Offered, claim_place, claimed_bundle, claimed_contracts, claimed_firm, claimed_nodes, claimed_number, claimed_on, claimed_over, claimed_prices, gain_or_null, member_place, no_offers, node_or_null, one_node, one_offer, own_or_null, unless_null}
 use Rattle.tn_read_claims.specs.Planned.{claimed_plan, in_part, one_part, part_at, part_of, plan_place, plan_weight_at}
@@ -402,8 +408,8 @@ module _ (listed : Listed) (top claim : Data) where
   unfolding equilibrium_of
   equilibrium_kinds =
       stops_bind Known (arrangement_of listed top) _ (arrangement_kinds listed top) (λ at.
-      stops_bind Known (frame_of EquilibriumKind claim) _
-      (object_kinds (ClaimObject EquilibriumKind) claim_place (Some claim)) (λ frame.
+      stops_bind Known (frame_of (OnMarket EquilibriumKind) claim) _
+      (object_kinds (ClaimObject (OnMarket EquilibriumKind)) claim_place (Some claim)) (λ frame.
       stops_bind Known (claimed_number listed Surplus (get (codes "surplus") claim)) _
       (number_kinds listed.limits.number (member_place Surplus) (get (codes "surplus") claim)) (λ surplus.
       stops_ok Known (Equilibrium (record { on = at.on; prices = at.prices }) surplus))))
@@ -412,7 +418,7 @@ module _ (listed : Listed) (top claim : Data) where
   unfolding better_of
   better_kinds =
       stops_bind Known (arrangement_of listed top) _ (arrangement_kinds listed top) (λ at.
-      stops_bind Known (frame_of BetterKind claim) _ (object_kinds (ClaimObject BetterKind) claim_place (Some claim))
+      stops_bind Known (frame_of (OnMarket BetterKind) claim) _ (object_kinds (ClaimObject (OnMarket BetterKind)) claim_place (Some claim))
       (λ frame.
       stops_bind Known (claimed_firm listed.names.firms claim) _
       (firm_kinds listed.names.firms (member_place FirmWord) (get (codes "firm") claim)) (λ f.
@@ -426,7 +432,7 @@ module _ (listed : Listed) (top claim : Data) where
   unfolding impossible_of
   impossible_kinds =
       stops_bind Known (trades_on_of listed.names.trades top) _ (trades_on_kinds listed.names.trades top) (λ on.
-      stops_bind Known (frame_of ImpossibleKind claim) _ (object_kinds (ClaimObject ImpossibleKind) claim_place
+      stops_bind Known (frame_of (OnMarket ImpossibleKind) claim) _ (object_kinds (ClaimObject (OnMarket ImpossibleKind)) claim_place
       (Some claim)) (λ frame.
       stops_bind Known (claimed_firm listed.names.firms claim) _
       (firm_kinds listed.names.firms (member_place FirmWord) (get (codes "firm") claim)) (λ f.
@@ -435,15 +441,15 @@ module _ (listed : Listed) (top claim : Data) where
   accepted_kinds : Stops Known (accepted_of claim)
   unfolding accepted_of
   accepted_kinds =
-      stops_bind Known (frame_of AcceptedKind claim) _ (object_kinds (ClaimObject AcceptedKind) claim_place
+      stops_bind Known (frame_of (OnFirms AcceptedKind) claim) _ (object_kinds (ClaimObject (OnFirms AcceptedKind)) claim_place
       (Some claim)) (λ frame.
       stops_ok Known (Accepted))
 
   failure_kinds : Stops Known (failure_of listed claim)
   unfolding failure_of
   failure_kinds =
-      stops_bind Known (frame_of ExchangeFailsKind claim) _
-      (object_kinds (ClaimObject ExchangeFailsKind) claim_place (Some claim)) (λ frame.
+      stops_bind Known (frame_of (OnFirms ExchangeFailsKind) claim) _
+      (object_kinds (ClaimObject (OnFirms ExchangeFailsKind)) claim_place (Some claim)) (λ frame.
       stops_bind Known (claimed_firm listed.names.firms claim) _
       (firm_kinds listed.names.firms (member_place FirmWord) (get (codes "firm") claim)) (λ f.
       stops_bind Known (own_or_null listed f (member_place At) (get (codes "at") claim)) _
@@ -458,7 +464,7 @@ module _ (listed : Listed) (top claim : Data) where
   unfolding supported_of
   supported_kinds =
       stops_bind Known (trades_on_of listed.names.trades top) _ (trades_on_kinds listed.names.trades top) (λ on.
-      stops_bind Known (frame_of SupportedKind claim) _ (object_kinds (ClaimObject SupportedKind) claim_place
+      stops_bind Known (frame_of (OnMarket SupportedKind) claim) _ (object_kinds (ClaimObject (OnMarket SupportedKind)) claim_place
       (Some claim)) (λ frame.
       stops_bind Known (claimed_prices listed claim) _ (claimed_prices_kinds listed claim) (λ prices.
       stops_ok Known (Supported on prices))))
@@ -467,7 +473,7 @@ module _ (listed : Listed) (top claim : Data) where
   unfolding cycle_of
   cycle_kinds =
       stops_bind Known (trades_on_of listed.names.trades top) _ (trades_on_kinds listed.names.trades top) (λ on.
-      stops_bind Known (frame_of CycleKind claim) _ (object_kinds (ClaimObject CycleKind) claim_place (Some claim))
+      stops_bind Known (frame_of (OnMarket CycleKind) claim) _ (object_kinds (ClaimObject (OnMarket CycleKind)) claim_place (Some claim))
       (λ frame.
       stops_bind Known (claimed_number listed Cost (get (codes "cost") claim)) _
       (number_kinds listed.limits.number (member_place Cost) (get (codes "cost") claim)) (λ cost.
@@ -477,7 +483,7 @@ module _ (listed : Listed) (top claim : Data) where
   solved_kinds : Stops Known (solved_of listed claim)
   unfolding solved_of
   solved_kinds =
-      stops_bind Known (frame_of SolvedKind claim) _ (object_kinds (ClaimObject SolvedKind) claim_place (Some claim))
+      stops_bind Known (frame_of (OnMarket SolvedKind) claim) _ (object_kinds (ClaimObject (OnMarket SolvedKind)) claim_place (Some claim))
       (λ frame.
       stops_bind Known (claimed_on listed.names.trades claim) _ (claimed_on_kinds listed.names.trades claim) (λ on.
       stops_bind Known (claimed_prices listed claim) _ (claimed_prices_kinds listed claim) (λ prices.
@@ -489,7 +495,7 @@ module _ (listed : Listed) (top claim : Data) where
   unfolding drops_of
   drops_kinds =
       stops_bind Known (outcome_of listed top) _ (outcome_kinds listed top) (λ outcome.
-      stops_bind Known (frame_of DropsKind claim) _ (object_kinds (ClaimObject DropsKind) claim_place (Some claim))
+      stops_bind Known (frame_of (OnMarket DropsKind) claim) _ (object_kinds (ClaimObject (OnMarket DropsKind)) claim_place (Some claim))
       (λ frame.
       stops_bind Known (claimed_firm listed.names.firms claim) _
       (firm_kinds listed.names.firms (member_place FirmWord) (get (codes "firm") claim)) (λ f.
@@ -505,7 +511,7 @@ module _ (listed : Listed) (top claim : Data) where
   unfolding completes_of
   completes_kinds =
       stops_bind Known (outcome_of listed top) _ (outcome_kinds listed top) (λ outcome.
-      stops_bind Known (frame_of CompletesKind claim) _ (object_kinds (ClaimObject CompletesKind) claim_place
+      stops_bind Known (frame_of (OnMarket CompletesKind) claim) _ (object_kinds (ClaimObject (OnMarket CompletesKind)) claim_place
       (Some claim)) (λ frame.
       stops_bind Known (claimed_over listed claim) _ (over_kinds listed.limits.claimed_over (member_place Over)
       (get (codes "over") claim)) (λ over.
@@ -516,7 +522,7 @@ module _ (listed : Listed) (top claim : Data) where
   unfolding blocks_of
   blocks_kinds =
       stops_bind Known (outcome_of listed top) _ (outcome_kinds listed top) (λ outcome.
-      stops_bind Known (frame_of BlocksKind claim) _ (object_kinds (ClaimObject BlocksKind) claim_place (Some claim))
+      stops_bind Known (frame_of (OnMarket BlocksKind) claim) _ (object_kinds (ClaimObject (OnMarket BlocksKind)) claim_place (Some claim))
       (λ frame.
       stops_bind Known (claimed_contracts listed claim) _ (claimed_contracts_kinds listed claim) (λ contracts.
       stops_bind Known (claimed_over listed claim) _ (over_kinds listed.limits.claimed_over (member_place Over)
@@ -528,26 +534,36 @@ module _ (listed : Listed) (top claim : Data) where
   no_prices_kinds =
       let few_trades = nat_le (length listed.ends) most_planned_trades in
       stops_bind Known (holds Limit claim_place few_trades) _ (holds_kinds Limit claim_place few_trades refl) (λ few.
-      stops_bind Known (frame_of NoPricesKind claim) _ (object_kinds (ClaimObject NoPricesKind) claim_place
+      stops_bind Known (frame_of (OnFirms NoPricesKind) claim) _ (object_kinds (ClaimObject (OnFirms NoPricesKind)) claim_place
       (Some claim)) (λ frame.
       stops_bind Known (claimed_over listed claim) _ (over_kinds listed.limits.claimed_over (member_place Over)
       (get (codes "over") claim)) (λ over.
       stops_bind Known (claimed_plan listed claim) _ (plan_kinds listed claim) (λ plan.
       stops_ok Known (NoPrices plan over)))))
 
+  by_market_kind : (kind : MarketClaimKind) → Stops Known (market_claim_by listed kind top claim)
+  by_market_kind EquilibriumKind = equilibrium_kinds
+  by_market_kind BetterKind = better_kinds
+  by_market_kind ImpossibleKind = impossible_kinds
+  by_market_kind SupportedKind = supported_kinds
+  by_market_kind CycleKind = cycle_kinds
+  by_market_kind SolvedKind = solved_kinds
+  by_market_kind DropsKind = drops_kinds
+  by_market_kind CompletesKind = completes_kinds
+  by_market_kind BlocksKind = blocks_kinds
+
+  by_firm_kind : (kind : FirmClaimKind) → Stops Known (firm_claim_by listed kind claim)
+  by_firm_kind AcceptedKind = accepted_kinds
+  by_firm_kind ExchangeFailsKind = failure_kinds
+  by_firm_kind NoPricesKind = no_prices_kinds
+
   by_kind : (kind : ClaimKind) → Stops Known (claim_by listed kind top claim)
-  by_kind EquilibriumKind = equilibrium_kinds
-  by_kind BetterKind = better_kinds
-  by_kind ImpossibleKind = impossible_kinds
-  by_kind AcceptedKind = accepted_kinds
-  by_kind ExchangeFailsKind = failure_kinds
-  by_kind SupportedKind = supported_kinds
-  by_kind CycleKind = cycle_kinds
-  by_kind SolvedKind = solved_kinds
-  by_kind DropsKind = drops_kinds
-  by_kind CompletesKind = completes_kinds
-  by_kind BlocksKind = blocks_kinds
-  by_kind NoPricesKind = no_prices_kinds
+  by_kind (OnMarket kind) =
+      stops_bind Known (market_claim_by listed kind top claim) _ (by_market_kind kind) (λ read.
+      stops_ok Known (on_market read))
+  by_kind (OnFirms kind) =
+      stops_bind Known (firm_claim_by listed kind claim) _ (by_firm_kind kind) (λ read.
+      stops_ok Known (on_firms read))
 
 kind_kinds : (claim : Data) → Stops Known (kind_of claim)
 unfolding kind_of
@@ -556,15 +572,19 @@ kind_kinds claim =
     (text_kinds (member_place Answer) (get (codes "answer") claim)) (λ answer.
     wanted_kinds Shape (member_place Answer) (claim_named answer) refl)
 
-claim_kinds : (listed : Listed) (top : Data) → Stops Known (claim_of listed top)
-unfolding claim_of
-claim_kinds listed top =
+named_claim_kinds : (top : Data) → Stops Known (named_claim top)
+unfolding named_claim
+named_claim_kinds top =
     stops_bind Known (wanted Shape claim_place (get (codes "claim") top)) _
     (wanted_kinds Shape claim_place (get (codes "claim") top) refl) (λ claim.
     stops_bind Known (object_at claim_place (Some claim)) _
     (holds_kinds Shape claim_place (is_some (option_and_then as_object (Some claim))) refl) (λ object.
-    stops_bind Known (kind_of claim) _ (kind_kinds claim) (λ kind.
-    by_kind listed top claim kind)))
+    stops_bind Known (kind_of claim) _ (kind_kinds claim) (λ kind. stops_ok Known (kind, claim))))
+
+claim_kinds : (listed : Listed) (top : Data) → Stops Known (claim_of listed top)
+unfolding claim_of
+claim_kinds listed top =
+    stops_bind Known (named_claim top) _ (named_claim_kinds top) (λ named. by_kind listed top named.1 named.0)
 
 pub faults_of_claims : FaultsOfClaims
 faults_of_claims listed top found e = (claim_kinds listed top).at found e

@@ -5,13 +5,14 @@ use Rattle.tn_said.specs.declared.fault.FaultKind.{FaultKind}
 use Rattle.tn_said.specs.declared.fault.FaultKind.TheVariants.{NotJson, TooLong, Shape, BadName, SameName, UnknownFirm, SelfTrade, UnknownTrade, Limit, AmountRange, NotOwnTrade, SameBundle, NoEmpty, NotLaminar, NotConcave, ExchangeFails, SameTrade, PriceMissing, BadOver, SamePair}
 use Rattle.tn_base.specs.Firm.{Firm}
 use Rattle.tn_said.specs.declared.said.Fault.{Fault}
-use Rattle.tn_said.specs.declared.claim.Claim.{Claim}
-use Rattle.tn_said.specs.declared.claim.Claim.TheVariants.{Cycle, Drops, Completes, Blocks, NoPrices}
+use Rattle.tn_said.specs.Claim.{Claim, is_raw, on_market, on_firms}
+use Rattle.tn_said.specs.declared.claim.MarketClaim.TheVariants.{Cycle, Drops, Completes, Blocks}
+use Rattle.tn_said.specs.declared.claim.FirmClaim.TheVariants.{NoPrices}
 use Rattle.tn_model.specs.declared.limits.Limits.{Limits}
 use Rattle.tn_said.specs.ClaimLimits.{IsClaimWithin}
 use Rattle.tn_model.specs.Network.{IsNetwork}
 use Rattle.tn_read_references.specs.Ordered.{Listed, AreTrades}
-use Rattle.tn_read_claims.specs.Claimed.{claim_of, claims_raw, is_raw_kind, kind_is}
+use Rattle.tn_read_claims.specs.Claimed.{claim_of, claims_raw}
 
 -- a claim of a document whose firms and trades are a network speaks of its firms, trades and positions, within the
 -- limits of claims
@@ -22,11 +23,11 @@ ClaimsAreWithin = (listed : Listed) (firms : List Firm) (top : Data) (claim : Cl
 
 -- the nodes of a claim, its denominator and its weights are within some limits
 abbrev pub KeepsClaimLimits : Limits → Claim → Type 0
-KeepsClaimLimits limits (Cycle on nodes cost) = length nodes ≤ limits.nodes
-KeepsClaimLimits limits (Drops outcome f keeps gain over) = over ≤ℤ pos limits.claimed_over
-KeepsClaimLimits limits (Completes outcome prices over) = over ≤ℤ pos limits.claimed_over
-KeepsClaimLimits limits (Blocks outcome contracts over) = over ≤ℤ pos limits.claimed_over
-KeepsClaimLimits limits (NoPrices plan over) = (over ≤ℤ pos limits.claimed_over)
+KeepsClaimLimits limits (on_market (Cycle on nodes cost)) = length nodes ≤ limits.nodes
+KeepsClaimLimits limits (on_market (Drops outcome f keeps gain over)) = over ≤ℤ pos limits.claimed_over
+KeepsClaimLimits limits (on_market (Completes outcome prices over)) = over ≤ℤ pos limits.claimed_over
+KeepsClaimLimits limits (on_market (Blocks outcome contracts over)) = over ≤ℤ pos limits.claimed_over
+KeepsClaimLimits limits (on_firms (NoPrices plan over)) = (over ≤ℤ pos limits.claimed_over)
     × All (λ part. part.weight ≤ℤ pos limits.claimed_over) plan
 KeepsClaimLimits limits claim = Unit {0}
 
@@ -38,7 +39,7 @@ ClaimsKeepLimits = (listed : Listed) (top : Data) (claim : Claim) → claim_of l
 -- whether its network is read raw is told before it is read
 abbrev pub RawClaimsAreTold : Type 0
 RawClaimsAreTold = (listed : Listed) (top : Data) (claim : Claim) → claim_of listed top ≡ Ok claim
-    → claims_raw top ≡ is_raw_kind (kind_is claim)
+    → claims_raw top ≡ is_raw claim
 
 -- the kinds of faults that a claim, or the part that it speaks of, may have
 abbrev pub is_claim_fault : FaultKind → Bool

@@ -18,9 +18,12 @@ use std::alloc::Global;
 use tn_model::Arrangement;
 use tn_read_parts::{read_arrangement, read_outcome, read_trades_on};
 use tn_read_references::Head;
-use tn_read_shapes::{ClaimKind, ObjectKind, ReadError, member, object_of, require};
+use tn_read_shapes::ClaimKind::{OnFirms, OnMarket};
+use tn_read_shapes::{
+    ClaimKind, FirmClaimKind, MarketClaimKind, ObjectKind, ReadError, member, object_of, require,
+};
 use tn_said::PlaceStep::Key;
-use tn_said::{Claim, FaultKind, Word};
+use tn_said::{FaultKind, FirmClaim, MarketClaim, Word};
 
 /// The most trades of a document whose claim is a plan: it is held against every set of them.
 const MOST_PLANNED_TRADES: usize = 20;
@@ -44,13 +47,13 @@ pub(crate) fn equilibrium(
     head: &Head,
     top: &Value,
     claim: &Value,
-) -> Result<Claim, ReadError>
+) -> Result<MarketClaim, ReadError>
     ensures { Gives (λ c. c) result (equilibrium_of head.now (view top.now) (view claim.now)) }
 {
     let at = read_arrangement(alloc, head, top)?;
-    check_frame(alloc, ClaimKind::Equilibrium, claim)?;
+    check_frame(alloc, OnMarket(MarketClaimKind::Equilibrium), claim)?;
     let surplus = number_of(alloc, head, Word::Surplus, member(claim, Word::Surplus))?;
-    Ok(Claim::Equilibrium { at, surplus })
+    Ok(MarketClaim::Equilibrium { at, surplus })
 }
 
 /// The claim that a firm has more by another bundle.
@@ -60,16 +63,16 @@ pub(crate) fn better(
     head: &Head,
     top: &Value,
     claim: &Value,
-) -> Result<Claim, ReadError>
+) -> Result<MarketClaim, ReadError>
     requires few { (f : ℕ) → f < length head.now.names.firms → length (sides_of head.now.ends f) ≤ most_own_trades }
     ensures { Gives (λ c. c) result (better_of head.now (view top.now) (view claim.now)) }
 {
     let at = read_arrangement(alloc, head, top)?;
-    check_frame(alloc, ClaimKind::Better, claim)?;
+    check_frame(alloc, OnMarket(MarketClaimKind::Better), claim)?;
     let firm = firm_of(alloc, head, claim)?;
     let bundle = bundle_of(alloc, head, firm, Word::Bundle, member(claim, Word::Bundle))?;
     let gain = number_of(alloc, head, Word::Gain, member(claim, Word::Gain))?;
-    Ok(Claim::Better {
+    Ok(MarketClaim::Better {
         at,
         firm,
         bundle,
@@ -84,31 +87,31 @@ pub(crate) fn impossible(
     head: &Head,
     top: &Value,
     claim: &Value,
-) -> Result<Claim, ReadError>
+) -> Result<MarketClaim, ReadError>
     ensures { Gives (λ c. c) result (impossible_of head.now (view top.now) (view claim.now)) }
 {
     let on = read_trades_on(alloc, head, top)?;
-    check_frame(alloc, ClaimKind::Impossible, claim)?;
+    check_frame(alloc, OnMarket(MarketClaimKind::Impossible), claim)?;
     let firm = firm_of(alloc, head, claim)?;
-    Ok(Claim::Impossible { on, firm })
+    Ok(MarketClaim::Impossible { on, firm })
 }
 
 /// The claim that every firm meets exchange.
 #[tactic(auto, unfolding(crate::specs::Claimed::accepted_of))]
-pub(crate) fn accepted(alloc: Global, claim: &Value) -> Result<Claim, ReadError>
+pub(crate) fn accepted(alloc: Global, claim: &Value) -> Result<FirmClaim, ReadError>
     ensures { Gives (λ c. c) result (accepted_of (view claim.now)) }
 {
-    check_frame(alloc, ClaimKind::Accepted, claim)?;
-    Ok(Claim::Accepted)
+    check_frame(alloc, OnFirms(FirmClaimKind::Accepted), claim)?;
+    Ok(FirmClaim::Accepted)
 }
 
 /// The claim that a firm doesn't meet exchange.
 #[tactic(auto, unfolding(crate::specs::Claimed::failure_of))]
-pub(crate) fn failure(alloc: Global, head: &Head, claim: &Value) -> Result<Claim, ReadError>
+pub(crate) fn failure(alloc: Global, head: &Head, claim: &Value) -> Result<FirmClaim, ReadError>
     requires few { (f : ℕ) → f < length head.now.names.firms → length (sides_of head.now.ends f) ≤ most_own_trades }
     ensures { Gives (λ c. c) result (failure_of head.now (view claim.now)) }
 {
-    check_frame(alloc, ClaimKind::ExchangeFails, claim)?;
+    check_frame(alloc, OnFirms(FirmClaimKind::ExchangeFails), claim)?;
     let firm = firm_of(alloc, head, claim)?;
     let at = own_or_null(
         alloc,
@@ -119,7 +122,7 @@ pub(crate) fn failure(alloc: Global, head: &Head, claim: &Value) -> Result<Claim
     )?;
     let x = bundle_of(alloc, head, firm, Word::X, member(claim, Word::X))?;
     let y = bundle_of(alloc, head, firm, Word::Y, member(claim, Word::Y))?;
-    Ok(Claim::ExchangeFails { firm, x, y, at })
+    Ok(FirmClaim::ExchangeFails { firm, x, y, at })
 }
 
 /// The claim that prices support a set of trades.
@@ -129,13 +132,13 @@ pub(crate) fn supported(
     head: &Head,
     top: &Value,
     claim: &Value,
-) -> Result<Claim, ReadError>
+) -> Result<MarketClaim, ReadError>
     ensures { Gives (λ c. c) result (supported_of head.now (view top.now) (view claim.now)) }
 {
     let on = read_trades_on(alloc, head, top)?;
-    check_frame(alloc, ClaimKind::Supported, claim)?;
+    check_frame(alloc, OnMarket(MarketClaimKind::Supported), claim)?;
     let prices = prices_of(alloc, head, claim)?;
-    Ok(Claim::Supported { on, prices })
+    Ok(MarketClaim::Supported { on, prices })
 }
 
 /// The claim that a cycle of the exchange graph has a negative cost.
@@ -145,27 +148,27 @@ pub(crate) fn cycle(
     head: &Head,
     top: &Value,
     claim: &Value,
-) -> Result<Claim, ReadError>
+) -> Result<MarketClaim, ReadError>
     ensures { Gives (λ c. c) result (cycle_of head.now (view top.now) (view claim.now)) }
 {
     let on = read_trades_on(alloc, head, top)?;
-    check_frame(alloc, ClaimKind::Cycle, claim)?;
+    check_frame(alloc, OnMarket(MarketClaimKind::Cycle), claim)?;
     let cost = number_of(alloc, head, Word::Cost, member(claim, Word::Cost))?;
     let nodes = nodes_of(alloc, head, claim)?;
-    Ok(Claim::Cycle { on, nodes, cost })
+    Ok(MarketClaim::Cycle { on, nodes, cost })
 }
 
 /// The claim that its own arrangement is an equilibrium.
 #[tactic(auto, unfolding(crate::specs::Claimed::solved_of))]
-pub(crate) fn solved(alloc: Global, head: &Head, claim: &Value) -> Result<Claim, ReadError>
+pub(crate) fn solved(alloc: Global, head: &Head, claim: &Value) -> Result<MarketClaim, ReadError>
     ensures { Gives (λ c. c) result (solved_of head.now (view claim.now)) }
 {
-    check_frame(alloc, ClaimKind::Solved, claim)?;
+    check_frame(alloc, OnMarket(MarketClaimKind::Solved), claim)?;
     let on = on_of(alloc, head, claim)?;
     let prices = prices_of(alloc, head, claim)?;
     let surplus = number_of(alloc, head, Word::Surplus, member(claim, Word::Surplus))?;
     let at = Arrangement { on, prices };
-    Ok(Claim::Solved { at, surplus })
+    Ok(MarketClaim::Solved { at, surplus })
 }
 
 /// The claim that a firm has more where it drops some of its contracts.
@@ -175,17 +178,17 @@ pub(crate) fn drops(
     head: &Head,
     top: &Value,
     claim: &Value,
-) -> Result<Claim, ReadError>
+) -> Result<MarketClaim, ReadError>
     requires few { (f : ℕ) → f < length head.now.names.firms → length (sides_of head.now.ends f) ≤ most_own_trades }
     ensures { Gives (λ c. c) result (drops_of head.now (view top.now) (view claim.now)) }
 {
     let outcome = read_outcome(alloc, head, top)?;
-    check_frame(alloc, ClaimKind::Drops, claim)?;
+    check_frame(alloc, OnMarket(MarketClaimKind::Drops), claim)?;
     let firm = firm_of(alloc, head, claim)?;
     let gain = gain_or_null(alloc, head, member(claim, Word::Gain))?;
     let keeps = bundle_of(alloc, head, firm, Word::Keeps, member(claim, Word::Keeps))?;
     let over = over_of(alloc, head, claim)?;
-    Ok(Claim::Drops {
+    Ok(MarketClaim::Drops {
         outcome,
         firm,
         keeps,
@@ -201,14 +204,14 @@ pub(crate) fn completes(
     head: &Head,
     top: &Value,
     claim: &Value,
-) -> Result<Claim, ReadError>
+) -> Result<MarketClaim, ReadError>
     ensures { Gives (λ c. c) result (completes_of head.now (view top.now) (view claim.now)) }
 {
     let outcome = read_outcome(alloc, head, top)?;
-    check_frame(alloc, ClaimKind::Completes, claim)?;
+    check_frame(alloc, OnMarket(MarketClaimKind::Completes), claim)?;
     let over = over_of(alloc, head, claim)?;
     let prices = prices_of(alloc, head, claim)?;
-    Ok(Claim::Completes {
+    Ok(MarketClaim::Completes {
         outcome,
         prices,
         over,
@@ -222,14 +225,14 @@ pub(crate) fn blocks(
     head: &Head,
     top: &Value,
     claim: &Value,
-) -> Result<Claim, ReadError>
+) -> Result<MarketClaim, ReadError>
     ensures { Gives (λ c. c) result (blocks_of head.now (view top.now) (view claim.now)) }
 {
     let outcome = read_outcome(alloc, head, top)?;
-    check_frame(alloc, ClaimKind::Blocks, claim)?;
+    check_frame(alloc, OnMarket(MarketClaimKind::Blocks), claim)?;
     let contracts = contracts_of(alloc, head, claim)?;
     let over = over_of(alloc, head, claim)?;
-    Ok(Claim::Blocks {
+    Ok(MarketClaim::Blocks {
         outcome,
         contracts,
         over,
@@ -239,14 +242,14 @@ pub(crate) fn blocks(
 /// The claim that no prices make any set of trades an equilibrium, by a plan in parts. A document of more than 20
 /// trades is refused before the claim's members are read.
 #[tactic(auto, unfolding(crate::specs::Claimed::no_prices_of))]
-pub(crate) fn no_prices(alloc: Global, head: &Head, claim: &Value) -> Result<Claim, ReadError>
+pub(crate) fn no_prices(alloc: Global, head: &Head, claim: &Value) -> Result<FirmClaim, ReadError>
     requires few { (f : ℕ) → f < length head.now.names.firms → length (sides_of head.now.ends f) ≤ most_own_trades }
     ensures { Gives (λ c. c) result (no_prices_of head.now (view claim.now)) }
 {
     let few = head.ends().len() <= MOST_PLANNED_TRADES;
     require(alloc, few, FaultKind::Limit, &[Key(Word::Claim)])?;
-    check_frame(alloc, ClaimKind::NoPrices, claim)?;
+    check_frame(alloc, OnFirms(FirmClaimKind::NoPrices), claim)?;
     let over = over_of(alloc, head, claim)?;
     let plan = plan_of(alloc, head, claim)?;
-    Ok(Claim::NoPrices { plan, over })
+    Ok(FirmClaim::NoPrices { plan, over })
 }

@@ -9,8 +9,6 @@ mod laws;
 mod members;
 mod nodes;
 mod plan;
-mod raw;
 
-pub use claim::read_claim;
+pub use claim::{named_claim, read_firm_claim, read_market_claim};
 pub use laws::{claims_are_within, claims_keep_limits, faults_of_claims, raw_claims_are_told};
-pub use raw::claims_raw;

@@ -6,19 +6,24 @@ ghost use Rattle.tn_read_shapes.specs.Claims.{allows_in_claim, claim_named};
 use crate::words::{is_one_of, value_of_word};
 use tn_said::Word;
 
-/// The kinds of claims: one for each answer that can be claimed, and one that no command answers.
+/// The kinds of claims.
 #[derive(Clone, Copy)]
 pub enum ClaimKind {
+    /// A claim on a market, whose firms meet the exchange property.
+    OnMarket(MarketClaimKind),
+    /// A claim on firms as they are listed, whether they meet it or not.
+    OnFirms(FirmClaimKind),
+}
+
+/// The kinds of claims on a market: one for each answer that can be claimed of one.
+#[derive(Clone, Copy)]
+pub enum MarketClaimKind {
     /// An arrangement is an equilibrium.
     Equilibrium,
     /// A firm has more by another bundle.
     Better,
     /// A firm's bundle is impossible.
     Impossible,
-    /// Every firm meets the exchange property.
-    Accepted,
-    /// A firm doesn't.
-    ExchangeFails,
     /// Prices support a set of trades.
     Supported,
     /// A cycle shows that no prices do.
@@ -31,6 +36,16 @@ pub enum ClaimKind {
     Completes,
     /// Contracts block an outcome.
     Blocks,
+}
+
+/// The kinds of claims on firms as they are listed: one for each answer about the exchange property, and one that no
+/// command answers.
+#[derive(Clone, Copy)]
+pub enum FirmClaimKind {
+    /// Every firm meets the exchange property.
+    Accepted,
+    /// A firm doesn't.
+    ExchangeFails,
     /// A plan in parts shows that no prices make any trades an equilibrium.
     NoPrices,
 }
@@ -42,18 +57,27 @@ pub fn claim_named(text: &str) -> Option<ClaimKind>
     value_of_word(
         text,
         &[
-            ("equilibrium", ClaimKind::Equilibrium),
-            ("better", ClaimKind::Better),
-            ("impossible", ClaimKind::Impossible),
-            ("accepted", ClaimKind::Accepted),
-            ("exchange_fails", ClaimKind::ExchangeFails),
-            ("prices", ClaimKind::Supported),
-            ("cycle", ClaimKind::Cycle),
-            ("solved", ClaimKind::Solved),
-            ("drops", ClaimKind::Drops),
-            ("completes", ClaimKind::Completes),
-            ("blocks", ClaimKind::Blocks),
-            ("none", ClaimKind::NoPrices),
+            (
+                "equilibrium",
+                ClaimKind::OnMarket(MarketClaimKind::Equilibrium),
+            ),
+            ("better", ClaimKind::OnMarket(MarketClaimKind::Better)),
+            (
+                "impossible",
+                ClaimKind::OnMarket(MarketClaimKind::Impossible),
+            ),
+            ("accepted", ClaimKind::OnFirms(FirmClaimKind::Accepted)),
+            (
+                "exchange_fails",
+                ClaimKind::OnFirms(FirmClaimKind::ExchangeFails),
+            ),
+            ("prices", ClaimKind::OnMarket(MarketClaimKind::Supported)),
+            ("cycle", ClaimKind::OnMarket(MarketClaimKind::Cycle)),
+            ("solved", ClaimKind::OnMarket(MarketClaimKind::Solved)),
+            ("drops", ClaimKind::OnMarket(MarketClaimKind::Drops)),
+            ("completes", ClaimKind::OnMarket(MarketClaimKind::Completes)),
+            ("blocks", ClaimKind::OnMarket(MarketClaimKind::Blocks)),
+            ("none", ClaimKind::OnFirms(FirmClaimKind::NoPrices)),
         ],
     )
 }
@@ -64,18 +88,36 @@ pub(crate) fn allows_in_claim(kind: ClaimKind, key: &str) -> bool
     ensures { result ≡ allows_in_claim kind key.now }
 {
     match kind {
-        ClaimKind::Equilibrium => is_one_of(key, &[Word::Answer, Word::Surplus]),
-        ClaimKind::Better => is_one_of(key, &[Word::Answer, Word::Bundle, Word::Firm, Word::Gain]),
-        ClaimKind::Impossible => is_one_of(key, &[Word::Answer, Word::Firm]),
-        ClaimKind::Accepted => is_one_of(key, &[Word::Answer]),
-        ClaimKind::ExchangeFails => is_one_of(
+        ClaimKind::OnMarket(MarketClaimKind::Equilibrium) => is_one_of(
+            key,
+            &[Word::Answer, Word::Surplus],
+        ),
+        ClaimKind::OnMarket(MarketClaimKind::Better) => is_one_of(
+            key,
+            &[Word::Answer, Word::Bundle, Word::Firm, Word::Gain],
+        ),
+        ClaimKind::OnMarket(MarketClaimKind::Impossible) => is_one_of(
+            key,
+            &[Word::Answer, Word::Firm],
+        ),
+        ClaimKind::OnFirms(FirmClaimKind::Accepted) => is_one_of(key, &[Word::Answer]),
+        ClaimKind::OnFirms(FirmClaimKind::ExchangeFails) => is_one_of(
             key,
             &[Word::Answer, Word::At, Word::Firm, Word::X, Word::Y],
         ),
-        ClaimKind::Supported => is_one_of(key, &[Word::Answer, Word::Prices]),
-        ClaimKind::Cycle => is_one_of(key, &[Word::Answer, Word::Cost, Word::Nodes]),
-        ClaimKind::Solved => is_one_of(key, &[Word::Answer, Word::On, Word::Prices, Word::Surplus]),
-        ClaimKind::Drops => is_one_of(
+        ClaimKind::OnMarket(MarketClaimKind::Supported) => is_one_of(
+            key,
+            &[Word::Answer, Word::Prices],
+        ),
+        ClaimKind::OnMarket(MarketClaimKind::Cycle) => is_one_of(
+            key,
+            &[Word::Answer, Word::Cost, Word::Nodes],
+        ),
+        ClaimKind::OnMarket(MarketClaimKind::Solved) => is_one_of(
+            key,
+            &[Word::Answer, Word::On, Word::Prices, Word::Surplus],
+        ),
+        ClaimKind::OnMarket(MarketClaimKind::Drops) => is_one_of(
             key,
             &[
                 Word::Answer,
@@ -85,8 +127,17 @@ pub(crate) fn allows_in_claim(kind: ClaimKind, key: &str) -> bool
                 Word::Over,
             ],
         ),
-        ClaimKind::Completes => is_one_of(key, &[Word::Answer, Word::Over, Word::Prices]),
-        ClaimKind::Blocks => is_one_of(key, &[Word::Answer, Word::Contracts, Word::Over]),
-        ClaimKind::NoPrices => is_one_of(key, &[Word::Answer, Word::Over, Word::Plan]),
+        ClaimKind::OnMarket(MarketClaimKind::Completes) => is_one_of(
+            key,
+            &[Word::Answer, Word::Over, Word::Prices],
+        ),
+        ClaimKind::OnMarket(MarketClaimKind::Blocks) => is_one_of(
+            key,
+            &[Word::Answer, Word::Contracts, Word::Over],
+        ),
+        ClaimKind::OnFirms(FirmClaimKind::NoPrices) => is_one_of(
+            key,
+            &[Word::Answer, Word::Over, Word::Plan],
+        ),
     }
 }

@@ -8,7 +8,7 @@ mod members;
 mod shapes;
 mod words;
 
-pub use claims::{ClaimKind, claim_named};
+pub use claims::{ClaimKind, FirmClaimKind, MarketClaimKind, claim_named};
 pub use error::ReadError;
 pub use members::{FirmKind, ObjectKind, member};
 pub use shapes::{

@@ -1,15 +1,16 @@
 -- What `check` and `test` say of a document is a valid claim on it.
 use Rattle.std.proofs.Common.{◌≡◌, ℕ, ◌<◌, ◌^◌, ℤ, pos, List, slice_get, Option, Some, None, Ok, refl, sym, ap, subst, ◌∙◌}
-use Rattle.std.specs.Prelude.{codes, IfSome, not, option_and_then, option_map}
+use Rattle.std.specs.Prelude.{codes, IfSome, option_map}
 use Rattle.std.proofs.lemmas.Option.{none-some, slice_get_within}
 use Rattle.serde_json.specs.Data.{Data}
-use Rattle.serde_json.specs.Find.{as_str, get}
+use Rattle.serde_json.specs.Find.{get}
 use Rattle.tn_base.specs.Exchange.{Fails, MeetsExchange}
 use Rattle.tn_base.specs.Firm.{Firm}
 use Rattle.tn_cert.specs.Claims.{IsValid}
 use Rattle.tn_cert.specs.Reasons.{IsFirstToFail}
-use Rattle.tn_said.specs.declared.claim.Claim.{Claim as ClaimIs}
-use Rattle.tn_said.specs.declared.claim.Claim.TheVariants.{Equilibrium as EquilibriumClaim, Better as BetterClaim, Impossible as ImpossibleClaim, Accepted as AcceptedClaim, ExchangeFails as FailureClaim}
+use Rattle.tn_said.specs.Claim.{Claim as ClaimIs, on_market, on_firms}
+use Rattle.tn_said.specs.declared.claim.MarketClaim.TheVariants.{Equilibrium as EquilibriumClaim, Better as BetterClaim, Impossible as ImpossibleClaim}
+use Rattle.tn_said.specs.declared.claim.FirmClaim.TheVariants.{Accepted as AcceptedClaim, ExchangeFails as FailureClaim}
 use Rattle.tn_said.specs.declared.said.Said.{Said}
 use Rattle.tn_said.specs.declared.said.Said.TheVariants.{Accepted, Better, Equilibrium, ExchangeFails, Impossible}
 use Rattle.tn_model.specs.Prices.{price_at}
@@ -22,18 +23,18 @@ use Rattle.tn_local.proofs.FirstLemmas.{triple_fails}
 use Rattle.tn_read_firms.proofs.ShownLemmas.{own_position_of}
 use Rattle.tn_read_head.proofs.ListingLeads.{listed_leads}
 use Rattle.tn_read_parts.specs.Arranged.{Arranged, arrangement_of}
-use Rattle.tn_read_claims.specs.Claimed.{claim_of, names_raw}
+use Rattle.tn_read_claims.specs.Claimed.{claim_of}
 use Rattle.tn_file.specs.declared.command.Command.{Command}
-use Rattle.tn_file.specs.declared.command.Command.TheVariants.{Check, Test}
-use Rattle.tn_file.specs.Document.{DocumentData, arrangement, document_of, is_tested}
+use Rattle.tn_file.specs.declared.command.Command.TheVariants.{Check, Replay, Test}
+use Rattle.tn_file.specs.Document.{DocumentData, arrangement, claim, document_of, is_accepted, is_tested}
 use Rattle.tn_file.specs.Laws.{IsDocument}
-use Rattle.tn_file.proofs.DocumentLeads.{document_leads}
+use Rattle.tn_file.proofs.DocumentLeads.{claimed_as_told, document_leads}
 use Rattle.tn_replay_laws.specs.Laws.{TestsReplay, VerdictsReplay}
 use Rattle.tn_replay_laws.specs.Replayed.{IsReplayed, with_claim}
 use Rattle.tn_replay_laws.proofs.ClaimLemmas.{accepted_back, better_back, equilibrium_back, failure_back, impossible_back}
 use Rattle.tn_replay_laws.proofs.DocumentLemmas.{AreParts, document_back, listed_in, parts}
 use Rattle.tn_replay_laws.proofs.ExtraLemmas.{arranged, on_arranged}
-use Rattle.tn_replay_laws.proofs.Frame.{arrangement_other, claim_is_there, raw_there}
+use Rattle.tn_replay_laws.proofs.Frame.{arrangement_other, claim_is_there}
 use Rattle.tn_replay_laws.proofs.ListLemmas.{AreRead}
 
 -- a document that was read, with its parts
@@ -68,15 +69,14 @@ module _ (command : Command) (top : Data) (doc : DocumentData) (from : IsReadFro
   ) from.parts.listed
 
   -- a claim that is read, whose answer needs the same test of the firms, is the extra part of the document
-  pub replayed : (said : Said) (text : List ℕ) (read : ClaimIs)
-      → option_and_then as_str (get (codes "answer") (answer_data doc.names said)) ≡ Some text
-      → is_tested command top ≡ not (names_raw text)
+  pub replayed : (said : Said) (read : ClaimIs) → is_tested command top ≡ is_accepted Replay (claim read)
       → claim_of (listed_in from.parts.limits doc) (with_claim (answer_data doc.names said) top) ≡ Ok read
       → IsValid doc.firms doc.ends read → IsReplayed top doc said
-  replayed said text read answer tested claimed valid = record {
+  replayed said read tested claimed valid = record {
     read = read;
     reads = document_back command top (answer_data doc.names said) doc read from.parts (tested
-        ∙ ap not (sym (raw_there (answer_data doc.names said) top text (there said) answer))) claimed;
+        ∙ claimed_as_told (listed_in from.parts.limits doc) (with_claim (answer_data doc.names said) top) read claimed)
+        claimed;
     valid = valid;
   }
 
@@ -100,8 +100,8 @@ module _ (top : Data) (doc : DocumentData) (at : Arranged) (from : IsReadFrom Ch
       → FitsClaim (Equilibrium surplus) → IsReplayed top doc (Equilibrium surplus)
   equilibrium_replays surplus judges within =
       let said = Equilibrium surplus in
-      replayed Check top doc from said (codes "equilibrium")
-      (EquilibriumClaim (record { on = at.on; prices = at.prices }) surplus) refl refl
+      replayed Check top doc from said
+      (on_market (EquilibriumClaim (record { on = at.on; prices = at.prices }) surplus)) refl
       (equilibrium_back (listed_in from.parts.limits doc) doc.firms (are_read Check top doc from)
       (with_claim (answer_data doc.names said) top) at surplus (there Check top doc from said)
       (part (answer_data doc.names said)) within)
@@ -115,8 +115,8 @@ module _ (top : Data) (doc : DocumentData) (at : Arranged) (from : IsReadFrom Ch
       let said = Better f (trades_of doc.ends f is.firm.count x) gain in
       let worth = worth_there (is.firm.worth x) _ is.best_value is.best.is in
       let below : x < 2 ^ is.firm.count = from.is.own_bundles f is.firm is.is x worth.0 worth.1 in
-      replayed Check top doc from said (codes "better")
-      (BetterClaim (record { on = at.on; prices = at.prices }) f x gain) refl refl
+      replayed Check top doc from said
+      (on_market (BetterClaim (record { on = at.on; prices = at.prices }) f x gain)) refl
       (better_back (listed_in from.parts.limits doc) doc.firms (are_read Check top doc from)
       (with_claim (answer_data doc.names said) top) at f is.firm x gain is.is below
       (there Check top doc from said) (part (answer_data doc.names said)) within) (
@@ -140,7 +140,7 @@ module _ (top : Data) (doc : DocumentData) (at : Arranged) (from : IsReadFrom Ch
   impossible_replays f is =
       let said = Impossible f in
       let value = answer_data doc.names said in
-      replayed Check top doc from said (codes "impossible") (ImpossibleClaim at.on f) refl refl
+      replayed Check top doc from said (on_market (ImpossibleClaim at.on f)) refl
       (impossible_back (listed_in from.parts.limits doc) doc.firms (are_read Check top doc from)
       (with_claim value top) at.on f (slice_get_within doc.firms f is.firm is.is)
       (there Check top doc from said)
@@ -169,7 +169,7 @@ module _ (top : Data) (doc : DocumentData) (from : IsReadFrom Test top doc) wher
   acceptance_replays : ((f : ℕ) (firm : Firm) → slice_get doc.firms f ≡ Some firm → MeetsExchange firm)
       → IsReplayed top doc Accepted
   acceptance_replays meet =
-      replayed Test top doc from Accepted (codes "accepted") AcceptedClaim refl refl
+      replayed Test top doc from Accepted (on_firms AcceptedClaim) refl
       (accepted_back (listed_in from.parts.limits doc) doc.firms (are_read Test top doc from)
       (with_claim (answer_data doc.names Accepted) top) (there Test top doc from Accepted))
       meet
@@ -188,7 +188,7 @@ module _ (top : Data) (doc : DocumentData) (from : IsReadFrom Test top doc) wher
   failure_replays f firm x y at is fails =
       let said = ExchangeFails f (trades_of doc.ends f firm.count x) (trades_of doc.ends f firm.count y)
       (option_map (own doc.ends f) at) in
-      replayed Test top doc from said (codes "exchange_fails") (FailureClaim f x y at) refl refl
+      replayed Test top doc from said (on_firms (FailureClaim f x y at)) refl
       (failure_back (listed_in from.parts.limits doc) doc.firms (are_read Test top doc from)
       (with_claim (answer_data doc.names said) top) f firm x y at is
       (from.is.own_bundles f firm is x fails.first fails.first_is)

@@ -11,7 +11,9 @@ use Rattle.tn_base.specs.Arcs.{IsAtMost}
 use Rattle.tn_base.specs.Firm.{Firm}
 use Rattle.tn_base.specs.Sets.{has, set_of}
 use Rattle.tn_model.specs.Limits.{AreLimits, least_nodes, most_number}
-use Rattle.tn_said.specs.declared.claim.Claim.TheVariants.{Equilibrium, Better, Impossible, Accepted, ExchangeFails, Supported, Cycle, Solved, Drops, Completes, Blocks}
+use Rattle.tn_said.specs.Claim.{on_market, on_firms}
+use Rattle.tn_said.specs.declared.claim.MarketClaim.TheVariants.{Equilibrium, Better, Impossible, Supported, Cycle, Solved, Drops, Completes, Blocks}
+use Rattle.tn_said.specs.declared.claim.FirmClaim.TheVariants.{Accepted, ExchangeFails}
 use Rattle.tn_model.specs.declared.contract.Contract.{Contract}
 use Rattle.tn_model.specs.declared.contract.Outcome.{Outcome}
 use Rattle.tn_said.specs.declared.place.Word.{Word}
@@ -25,7 +27,7 @@ use Rattle.tn_read_shapes.specs.Shapes.{few_at, object_of}
 use Rattle.tn_read_references.specs.Ordered.{Listed}
 use Rattle.tn_read_parts.specs.Arranged.{Arranged, arrangement_of, trades_on_of}
 use Rattle.tn_read_parts.specs.Signed.{outcome_of, over_at}
-use Rattle.tn_read_claims.specs.Claimed.{accepted_of, better_of, blocks_of, claim_of, completes_of, cycle_of, drops_of, equilibrium_of, failure_of, impossible_of, kind_of, solved_of, supported_of}
+use Rattle.tn_read_claims.specs.Claimed.{accepted_of, better_of, blocks_of, claim_of, completes_of, cycle_of, drops_of, equilibrium_of, failure_of, impossible_of, kind_of, named_claim, solved_of, supported_of}
 use Rattle.tn_read_claims.specs.Members.{claimed_contracts, claimed_nodes, claimed_number, claimed_on, claimed_prices, gain_or_null, member_place}
 use Rattle.tn_answer.specs.AnswerText.{answer_data, contracts_data, nodes_data, prices_data}
 use Rattle.tn_answer.specs.Values.{bound_data, integer_data, names_data, option_data}
@@ -121,8 +123,8 @@ module _ (listed : Listed) (firms : List Firm) (are : AreRead listed firms) (top
   pub equilibrium_back : (at : Arranged) (surplus : ℤ)
       → get (codes "claim") top ≡ Some (answer_data listed.names (Said.Equilibrium surplus))
       → arrangement_of listed top ≡ Ok at → IsAtMost surplus most_number
-      → claim_of listed top ≡ Ok (Equilibrium (record { on = at.on; prices = at.prices }) surplus)
-  unfolding claim_of kind_of equilibrium_of object_of allows allows_in_claim
+      → claim_of listed top ≡ Ok (on_market (Equilibrium (record { on = at.on; prices = at.prices }) surplus))
+  unfolding claim_of named_claim kind_of equilibrium_of object_of allows allows_in_claim
   equilibrium_back at surplus there part small = rw (
     there,
     part,
@@ -134,8 +136,8 @@ module _ (listed : Listed) (firms : List Firm) (are : AreRead listed firms) (top
       → get (codes "claim") top
       ≡ Some (answer_data listed.names (Said.Better f (trades_of listed.ends f firm.count x) gain))
       → arrangement_of listed top ≡ Ok at → IsAtMost gain most_number
-      → claim_of listed top ≡ Ok (Better (record { on = at.on; prices = at.prices }) f x gain)
-  unfolding claim_of kind_of better_of object_of allows allows_in_claim
+      → claim_of listed top ≡ Ok (on_market (Better (record { on = at.on; prices = at.prices }) f x gain))
+  unfolding claim_of named_claim kind_of better_of object_of allows allows_in_claim
   better_back at f firm x gain is below there part small =
       let inside : f < length listed.names.firms = let within = slice_get_within firms f firm is in let counted =
       are.firms_named in omega (arith, within, counted) in
@@ -149,15 +151,15 @@ module _ (listed : Listed) (firms : List Firm) (are : AreRead listed firms) (top
 
   pub impossible_back : (on f : ℕ) → f < length firms
       → get (codes "claim") top ≡ Some (answer_data listed.names (Said.Impossible f)) → trades_on_of names top ≡ Ok on
-      → claim_of listed top ≡ Ok (Impossible on f)
-  unfolding claim_of kind_of impossible_of object_of allows allows_in_claim
+      → claim_of listed top ≡ Ok (on_market (Impossible on f))
+  unfolding claim_of named_claim kind_of impossible_of object_of allows allows_in_claim
   impossible_back on f below there part =
       let inside : f < length listed.names.firms = let counted = are.firms_named in omega (arith, below, counted) in
       rw (there, part, firm_back listed.names.firms are.firm_names (member_place FirmWord) f inside)
 
   pub accepted_back : get (codes "claim") top ≡ Some (answer_data listed.names Said.Accepted)
-      → claim_of listed top ≡ Ok Accepted
-  unfolding claim_of kind_of accepted_of object_of allows allows_in_claim
+      → claim_of listed top ≡ Ok (on_firms Accepted)
+  unfolding claim_of named_claim kind_of accepted_of object_of allows allows_in_claim
   accepted_back there = rw there
 
   pub failure_back : (f : ℕ) (firm : Firm) (x y : ℕ) (at : Option ℕ) → slice_get firms f ≡ Some firm
@@ -165,8 +167,8 @@ module _ (listed : Listed) (firms : List Firm) (are : AreRead listed firms) (top
       → get (codes "claim") top
       ≡ Some (answer_data listed.names (Said.ExchangeFails f (trades_of listed.ends f firm.count x)
       (trades_of listed.ends f firm.count y) (option_map (own listed.ends f) at)))
-      → claim_of listed top ≡ Ok (ExchangeFails f x y at)
-  unfolding claim_of kind_of failure_of object_of allows allows_in_claim
+      → claim_of listed top ≡ Ok (on_firms (ExchangeFails f x y at))
+  unfolding claim_of named_claim kind_of failure_of object_of allows allows_in_claim
   failure_back f firm x y at is below_x below_y within there =
       let inside : f < length listed.names.firms = let here = slice_get_within firms f firm is in let counted =
       are.firms_named in omega (arith, here, counted) in
@@ -181,8 +183,8 @@ module _ (listed : Listed) (firms : List Firm) (are : AreRead listed firms) (top
   pub supported_back : (on : ℕ) (prices : List ℤ) → length prices ≡ length names
       → All (λ z. IsAtMost z most_number) prices
       → get (codes "claim") top ≡ Some (answer_data listed.names (Said.Supported [] prices []))
-      → trades_on_of names top ≡ Ok on → claim_of listed top ≡ Ok (Supported on prices)
-  unfolding claim_of kind_of supported_of object_of allows allows_in_claim
+      → trades_on_of names top ≡ Ok on → claim_of listed top ≡ Ok (on_market (Supported on prices))
+  unfolding claim_of named_claim kind_of supported_of object_of allows allows_in_claim
   supported_back on prices counted small there part =
       rw (
         there,
@@ -195,8 +197,8 @@ module _ (listed : Listed) (firms : List Firm) (are : AreRead listed firms) (top
       → All (λ node. IfSome node (λ t. t < length names)) nodes → least_nodes ≤ length nodes
       → length nodes ≤ listed.limits.nodes → IsAtMost cost most_number
       → get (codes "claim") top ≡ Some (answer_data listed.names (Said.Cycle nodes cost))
-      → trades_on_of names top ≡ Ok on → claim_of listed top ≡ Ok (Cycle on nodes cost)
-  unfolding claim_of kind_of cycle_of object_of allows allows_in_claim
+      → trades_on_of names top ≡ Ok on → claim_of listed top ≡ Ok (on_market (Cycle on nodes cost))
+  unfolding claim_of named_claim kind_of cycle_of object_of allows allows_in_claim
   cycle_back on nodes cost known least most small there part =
       rw (
         there,
@@ -210,8 +212,8 @@ module _ (listed : Listed) (firms : List Firm) (are : AreRead listed firms) (top
       → All (λ z. IsAtMost z most_number) prices → IsAtMost surplus most_number
       → get (codes "claim") top
       ≡ Some (answer_data listed.names (Said.Solved (trades_on x (length names)) prices surplus []))
-      → claim_of listed top ≡ Ok (Solved (record { on = set_of (has x) (length names); prices = prices }) surplus)
-  unfolding claim_of kind_of solved_of object_of allows allows_in_claim
+      → claim_of listed top ≡ Ok (on_market (Solved (record { on = set_of (has x) (length names); prices = prices }) surplus))
+  unfolding claim_of named_claim kind_of solved_of object_of allows allows_in_claim
   solved_back x prices surplus counted small_prices small there =
       let value = answer_data listed.names (Said.Solved (trades_on x (length names)) prices surplus []) in
       rw (
@@ -227,8 +229,8 @@ module _ (listed : Listed) (firms : List Firm) (are : AreRead listed firms) (top
       → get (codes "claim") top
       ≡ Some (answer_data listed.names (Said.Drops f (trades_of listed.ends f firm.count keeps) gain over))
       → outcome_of listed top ≡ Ok outcome
-      → claim_of listed top ≡ Ok (Drops outcome f keeps gain over)
-  unfolding claim_of kind_of drops_of object_of allows allows_in_claim
+      → claim_of listed top ≡ Ok (on_market (Drops outcome f keeps gain over))
+  unfolding claim_of named_claim kind_of drops_of object_of allows allows_in_claim
   drops_back outcome f firm keeps gain over is below small least most there part =
       let inside : f < length listed.names.firms = let here = slice_get_within firms f firm is in let counted =
       are.firms_named in omega (arith, here, counted) in
@@ -244,8 +246,8 @@ module _ (listed : Listed) (firms : List Firm) (are : AreRead listed firms) (top
   pub completes_back : (outcome : Outcome) (prices : List ℤ) (over : ℤ) → length prices ≡ length names
       → All (λ z. IsAtMost z most_number) prices → pos 1 ≤ℤ over → over ≤ℤ pos listed.limits.claimed_over
       → get (codes "claim") top ≡ Some (answer_data listed.names (Said.Completes prices over))
-      → outcome_of listed top ≡ Ok outcome → claim_of listed top ≡ Ok (Completes outcome prices over)
-  unfolding claim_of kind_of completes_of object_of allows allows_in_claim
+      → outcome_of listed top ≡ Ok outcome → claim_of listed top ≡ Ok (on_market (Completes outcome prices over))
+  unfolding claim_of named_claim kind_of completes_of object_of allows allows_in_claim
   completes_back outcome prices over counted small least most there part =
       rw (
         there,
@@ -261,8 +263,8 @@ module _ (listed : Listed) (firms : List Firm) (are : AreRead listed firms) (top
       → one.trade ≡ other.trade → j ≡ k) → All (λ contract. IsAtMost contract.price most_number) contracts
       → pos 1 ≤ℤ over → over ≤ℤ pos listed.limits.claimed_over
       → get (codes "claim") top ≡ Some (answer_data listed.names (Said.Blocks contracts over))
-      → outcome_of listed top ≡ Ok outcome → claim_of listed top ≡ Ok (Blocks outcome contracts over)
-  unfolding claim_of kind_of blocks_of object_of allows allows_in_claim
+      → outcome_of listed top ≡ Ok outcome → claim_of listed top ≡ Ok (on_market (Blocks outcome contracts over))
+  unfolding claim_of named_claim kind_of blocks_of object_of allows allows_in_claim
   blocks_back outcome contracts over known once small least most there part =
       rw (
         there,

@@ -1,9 +1,8 @@
 -- A document that was read, with a claim in it: the same network, with the claim as its extra part.
 use Rattle.std.proofs.Common.{◌≡◌, List, [], Result, Ok, sym, ap, ◌∙◌}
-use Rattle.std.specs.Prelude.{not}
 use Rattle.serde_json.specs.Data.{Data, Items}
 use Rattle.tn_base.specs.Firm.{Firm}
-use Rattle.tn_said.specs.declared.claim.Claim.{Claim as ClaimIs}
+use Rattle.tn_said.specs.Claim.{Claim as ClaimIs}
 use Rattle.tn_model.specs.declared.limits.Limits.{Limits}
 use Rattle.tn_read_head.specs.Beside.{with_names}
 use Rattle.tn_read_head.specs.Listing.{listed_of}
@@ -12,7 +11,7 @@ use Rattle.tn_read_shapes.specs.Reading.{each}
 use Rattle.tn_read_shapes.proofs.LeadLemmas.{Leads, leads_bind, leads_ok}
 use Rattle.tn_read_references.specs.Ordered.{Listed}
 use Rattle.tn_read_firms.specs.Firms.{one_firm}
-use Rattle.tn_read_claims.specs.Claimed.{claim_of, claims_raw}
+use Rattle.tn_read_claims.specs.Claimed.{claim_of}
 use Rattle.tn_file.specs.declared.command.Command.{Command}
 use Rattle.tn_file.specs.declared.command.Command.TheVariants.{Replay}
 use Rattle.tn_file.specs.Document.{DocumentData, ExtraData, content_of, document_of, extra_of, is_tested}
@@ -79,12 +78,12 @@ pub parts : (command : Command) (top : Data) (doc : DocumentData) → document_o
 parts command top doc e = (parts_lead command top).at doc e
 
 pub document_back : (command : Command) (top value : Data) (doc : DocumentData) (read : ClaimIs)
-    → (are : AreParts command top doc) → is_tested command top ≡ not (claims_raw (with_claim value top))
+    → (are : AreParts command top doc) → is_tested command top ≡ is_tested Replay (with_claim value top)
     → claim_of (listed_in are.limits doc) (with_claim value top) ≡ Ok read
     → document_of Replay (with_claim value top) ≡ Ok (claimed_in doc read)
 unfolding document_of content_of extra_of
 document_back command top value doc read are tested claimed =
-    let firms : each (one_firm (not (claims_raw (with_claim value top))) (listed_in are.limits doc)) [] are.items
+    let firms : each (one_firm (is_tested Replay (with_claim value top)) (listed_in are.limits doc)) [] are.items
     ≡ Ok doc.firms =
     ap (λ b. each (one_firm b (listed_in are.limits doc)) [] are.items) (sym tested) ∙ are.firms in
     rw (listed_other value top, are.listed, firms, claimed)

@@ -1,6 +1,6 @@
 -- What `support` and `solve` say of a document is a valid claim on it.
 use Rattle.std.proofs.Common.{◌≡◌, ◌≢◌, ℕ, zero, suc, ◌+◌, ◌<◌, ◌≤◌, ℤ, pos, ◌+ℤ◌, Bool, true, false, ◌&&◌, ◌⊎◌, List, [], ◌∷◌, map, length, slice_get, Option, Some, None, Ok, inl, inr, refl, sym, ap, subst, ◌∙◌, arith}
-use Rattle.std.specs.Prelude.{codes, All, IfSome, cond, nat_le, nat_lt, option_and_then, option_map}
+use Rattle.std.specs.Prelude.{All, IfSome, cond, nat_le, nat_lt, option_and_then, option_map}
 use Rattle.std.proofs.lemmas.Bool.{cases_eq, eq-eqb, ne_eqb}
 use Rattle.std.proofs.lemmas.List.{length-map}
 use Rattle.std.proofs.lemmas.List.Elements.{All-head}
@@ -14,7 +14,8 @@ use Rattle.tn_base.specs.Walks.{walk_cost}
 use Rattle.tn_base.proofs.SetLemmas.{has-set_of}
 use Rattle.tn_cert.specs.Claims.{GoesRound, node_of}
 use Rattle.tn_cycle.proofs.WalkLemmas.{AreApart, apart_from_different, few_apart, walk_inside}
-use Rattle.tn_said.specs.declared.claim.Claim.TheVariants.{Cycle as CycleClaim, Impossible as ImpossibleClaim, Solved as SolvedClaim, Supported as SupportedClaim}
+use Rattle.tn_said.specs.Claim.{on_market}
+use Rattle.tn_said.specs.declared.claim.MarketClaim.TheVariants.{Cycle as CycleClaim, Impossible as ImpossibleClaim, Solved as SolvedClaim, Supported as SupportedClaim}
 use Rattle.tn_model.specs.declared.ends.Ends.{Ends}
 use Rattle.tn_said.specs.declared.said.Said.{Said}
 use Rattle.tn_said.specs.declared.said.Said.TheVariants.{Cycle, Impossible, Solved, Supported}
@@ -129,7 +130,7 @@ module _ (top : Data) (doc : DocumentData) (on : ℕ) (from : IsReadFrom Support
   unable_replays f is =
       let said = Impossible f in
       let value = answer_data doc.names said in
-      replayed Support top doc from said (codes "impossible") (ImpossibleClaim on f) refl refl
+      replayed Support top doc from said (on_market (ImpossibleClaim on f)) refl
       (impossible_back (listed_in from.parts.limits doc) doc.firms (are_read Support top doc from) (with_claim value top) on
       f (slice_get_within doc.firms f is.firm is.is) (there Support top doc from said) (on_there value))
       (is.firm, is.is, is.impossible)
@@ -140,7 +141,7 @@ module _ (top : Data) (doc : DocumentData) (on : ℕ) (from : IsReadFrom Support
   supported_replays listed prices ends supports within =
       let said = Supported listed prices ends in
       let value = answer_data doc.names said in
-      replayed Support top doc from said (codes "prices") (SupportedClaim on prices) refl refl
+      replayed Support top doc from said (on_market (SupportedClaim on prices)) refl
       (supported_back (listed_in from.parts.limits doc) doc.firms (are_read Support top doc from) (with_claim value top) on
       prices (supports.0.one_each ∙ sym from.is.trades_named) within
       (there Support top doc from said) (on_there value))
@@ -157,7 +158,7 @@ module _ (top : Data) (doc : DocumentData) (on : ℕ) (from : IsReadFrom Support
       let few = ((listed_leads top).at (listed_in from.parts.limits doc, from.parts.items) from.parts.listed).trades.few
       in
       let enough = (are_read Support top doc from).limits.enough_nodes in
-      replayed Support top doc from said (codes "cycle") (CycleClaim on nodes cost) refl refl
+      replayed Support top doc from said (on_market (CycleClaim on nodes cost)) refl
       (cycle_back (listed_in from.parts.limits doc) doc.firms (are_read Support top doc from) (with_claim value top) on nodes
       cost known (nodes_least doc.firms doc.ends from.is.network on nodes cost cycle)
       (omega (arith, most, few, enough)) within (there Support top doc from said) (on_there value))
@@ -235,11 +236,11 @@ module _ (top : Data) (doc : DocumentData) (from : IsReadFrom Solve top doc) whe
   set_replays set prices surplus ends one_each equilibrium is small_prices small =
       let said = Solved (trades_on set (length doc.names.trades)) prices surplus ends in
       let value = answer_data doc.names said in
-      replayed Solve top doc from said (codes "solved") (SolvedClaim (record {
+      replayed Solve top doc from said (on_market (SolvedClaim (record {
         on =
             set_of (has set) (length doc.names.trades);
         prices = prices;
-      }) surplus) refl refl
+      }) surplus)) refl
       (solved_back (listed_in from.parts.limits doc) doc.firms (are_read Solve top doc from) (with_claim value top) set
       prices surplus (one_each ∙ sym from.is.trades_named) small_prices small (there Solve top doc from said)) (
         subst (λ n. IsEquilibrium doc.firms doc.ends (pos 1) (set_of (has set) n) (price_at prices))

@@ -1,12 +1,12 @@
 -- A document with another claim: all that is read beside the claim stays.
 use Rattle.std.proofs.Common.{◌≡◌, ℕ, true, false, List, [], Some, Ok, refl, sym, ap, ◌∙◌, true≢false, Ordering, Less, Equal, Greater, nat_cmp}
-use Rattle.std.specs.Prelude.{codes, ◌&&◌, option_and_then, option_map, unwrap_or}
+use Rattle.std.specs.Prelude.{codes, ◌&&◌}
 use Rattle.std.specs.Ordering.{match_ordering}
 use Rattle.std.specs.Cmp.Lexicographic.{slice_cmp}
 use Rattle.std.specs.Str.{bytes_eq}
 use Rattle.std.proofs.lemmas.Slice.Eq.{bytes_eq-Decides}
 use Rattle.serde_json.specs.Data.{Data, null, boolean, number, string, array, object, put, Items, Members, no_members, member}
-use Rattle.serde_json.specs.Find.{get, as_str}
+use Rattle.serde_json.specs.Find.{get}
 use Rattle.serde_json.proofs.Views.{get_member-put, get_member-put_other}
 use Rattle.tn_read_shapes.specs.declared.members.ObjectKind.{ObjectKind}
 use Rattle.tn_read_shapes.specs.declared.members.ObjectKind.TheVariants.{Top}
@@ -18,7 +18,6 @@ use Rattle.tn_read_references.specs.Ordered.{Listed}
 use Rattle.tn_read_head.specs.Listing.{limits_at, listed_of}
 use Rattle.tn_read_parts.specs.Arranged.{arrangement_of, on_of, trades_on_of}
 use Rattle.tn_read_parts.specs.Signed.{outcome_of}
-use Rattle.tn_read_claims.specs.Claimed.{claims_raw, names_raw}
 use Rattle.tn_replay_laws.specs.Replayed.{with_claim}
 
 -- ---- members
@@ -117,12 +116,3 @@ pub outcome_other : (listed : Listed) (value top : Data)
     → outcome_of listed (with_claim value top) ≡ outcome_of listed top
 unfolding outcome_of
 outcome_other listed value top = rw (get_other (codes "outcome") value top refl)
-
--- whether the claim's network is read raw is told by its answer
-pub raw_there : (value top : Data) (text : List ℕ) → get (codes "claim") (with_claim value top) ≡ Some value
-    → option_and_then as_str (get (codes "answer") value) ≡ Some text
-    → claims_raw (with_claim value top) ≡ names_raw text
-raw_there value top text there answer =
-    ap (λ found. unwrap_or
-    (option_map names_raw (option_and_then as_str (option_and_then (get (codes "answer")) found))) false) there
-    ∙ ap (λ found. unwrap_or (option_map names_raw found) false) answer

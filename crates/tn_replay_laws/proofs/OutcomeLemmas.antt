@@ -1,6 +1,6 @@
 -- What `judge` says of a document's outcome is a valid claim on it.
 use Rattle.std.proofs.Common.{◌≡◌, ℕ, ◌<◌, ◌^◌, ℤ, pos, ◌-ℤ◌, Bool, true, false, List, length, Option, Some, None, Ok, refl, sym, ap, subst, ◌∙◌, arith}
-use Rattle.std.specs.Prelude.{codes, All, IfSome, ◌≤ℤ◌, ◌*ℤ◌, int_le, option_map}
+use Rattle.std.specs.Prelude.{All, IfSome, ◌≤ℤ◌, ◌*ℤ◌, int_le, option_map}
 use Rattle.std.proofs.lemmas.Int.{ints}
 use Rattle.serde_json.specs.Data.{Data}
 use Rattle.tn_base.specs.Arcs.{IsAtMost}
@@ -14,7 +14,8 @@ use Rattle.tn_chain.proofs.SizeLemmas.{scale_within}
 use Rattle.tn_judge.specs.Judges.{IsBlockedBy}
 use Rattle.tn_judge.specs.Verdict.{IsCompletedBy, IsFirstDrop}
 use Rattle.tn_firm_laws.proofs.KeepLemmas.{times-le}
-use Rattle.tn_said.specs.declared.claim.Claim.TheVariants.{Blocks as BlocksClaim, Completes as CompletesClaim, Drops as DropsClaim}
+use Rattle.tn_said.specs.Claim.{on_market}
+use Rattle.tn_said.specs.declared.claim.MarketClaim.TheVariants.{Blocks as BlocksClaim, Completes as CompletesClaim, Drops as DropsClaim}
 use Rattle.tn_model.specs.declared.contract.Contract.{Contract}
 use Rattle.tn_model.specs.declared.contract.Outcome.{Outcome as OutcomeIs}
 use Rattle.tn_said.specs.declared.said.Said.{Said}
@@ -174,7 +175,7 @@ module _ (top : Data) (doc : DocumentData) (signed : OutcomeIs) (from : IsReadFr
         let said = Drops f (trades_of doc.ends f firm.count keeps) gain signed.over in
         let value = answer_data doc.names said in
         let valid = drops_valid in
-        replayed Judge top doc from said (codes "drops") (DropsClaim signed f keeps gain signed.over) refl refl
+        replayed Judge top doc from said (on_market (DropsClaim signed f keeps gain signed.over)) refl
         (drops_back (listed_in from.parts.limits doc) doc.firms (are_read Judge top doc from) (with_claim value top)
         signed f firm keeps gain signed.over first.is keeps_below small within_limits.least over_most
         (there Judge top doc from said) (outcome_there value))
@@ -187,7 +188,7 @@ module _ (top : Data) (doc : DocumentData) (signed : OutcomeIs) (from : IsReadFr
   completes_replay prices completed small =
       let said = Completes prices signed.over in
       let value = answer_data doc.names said in
-      replayed Judge top doc from said (codes "completes") (CompletesClaim signed prices signed.over) refl refl
+      replayed Judge top doc from said (on_market (CompletesClaim signed prices signed.over)) refl
       (completes_back (listed_in from.parts.limits doc) doc.firms (are_read Judge top doc from) (with_claim value top)
       signed prices signed.over (completed.one_each ∙ sym from.is.trades_named) small within_limits.least over_most
       (there Judge top doc from said) (outcome_there value))
@@ -201,7 +202,7 @@ module _ (top : Data) (doc : DocumentData) (signed : OutcomeIs) (from : IsReadFr
   blocks_replay offers over least most blocks small =
       let said = Blocks offers over in
       let value = answer_data doc.names said in
-      replayed Judge top doc from said (codes "blocks") (BlocksClaim signed offers over) refl refl
+      replayed Judge top doc from said (on_market (BlocksClaim signed offers over)) refl
       (blocks_back (listed_in from.parts.limits doc) doc.firms (are_read Judge top doc from) (with_claim value top)
       signed offers over
       (λ k contract at. subst (λ n. contract.trade < n) (sym from.is.trades_named)

@@ -5,7 +5,7 @@ use Rattle.std.proofs.lemmas.Option.{slice_get_within}
 use Rattle.serde_json.specs.Data.{Data}
 use Rattle.tn_said.specs.declared.said.Said.{Said}
 use Rattle.tn_said.specs.declared.said.Said.TheVariants.{Accepted, ExchangeFails, Invalid, Valid}
-use Rattle.tn_said.specs.declared.claim.Claim.{Claim}
+use Rattle.tn_said.specs.Claim.{Claim}
 use Rattle.tn_model.specs.declared.ends.Ends.{Ends}
 use Rattle.tn_base.specs.Firm.{Firm}
 use Rattle.tn_cert.specs.Claims.{IsValid}

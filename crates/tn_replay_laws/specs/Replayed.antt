@@ -5,7 +5,7 @@ use Rattle.tn_answer.specs.AnswerText.{answer_data}
 use Rattle.tn_cert.specs.Claims.{IsValid}
 use Rattle.tn_file.specs.declared.command.Command.TheVariants.{Replay}
 use Rattle.tn_file.specs.Document.{DocumentData, claim, document_of}
-use Rattle.tn_said.specs.declared.claim.Claim.{Claim as ClaimIs}
+use Rattle.tn_said.specs.Claim.{Claim as ClaimIs}
 use Rattle.tn_said.specs.declared.said.Said.{Said}
 
 -- the document with a value as its claim, in place of any other

@@ -16,8 +16,9 @@ use Rattle.tn_commands.specs.Replay.{DecidesClaim}
 use Rattle.tn_file.specs.declared.command.Command.{Command}
 use Rattle.tn_file.specs.Document.{DocumentData}
 use Rattle.tn_file.specs.Laws.{IsDocument}
-use Rattle.tn_said.specs.declared.claim.Claim.{Claim}
-use Rattle.tn_said.specs.declared.claim.Claim.TheVariants.{Equilibrium, Better, Impossible, Accepted, ExchangeFails, Supported, Cycle, Solved, Drops, Completes, Blocks, NoPrices}
+use Rattle.tn_said.specs.Claim.{Claim, on_market, on_firms}
+use Rattle.tn_said.specs.declared.claim.MarketClaim.TheVariants.{Equilibrium, Better, Impossible, Supported, Cycle, Solved, Drops, Completes, Blocks}
+use Rattle.tn_said.specs.declared.claim.FirmClaim.TheVariants.{Accepted, ExchangeFails, NoPrices}
 use Rattle.tn_model.specs.declared.contract.Contract.{Contract}
 use Rattle.tn_model.specs.declared.contract.Outcome.{Outcome}
 use Rattle.tn_said.specs.declared.part.Part.{Part}
@@ -132,28 +133,28 @@ module _ (command : Command) (doc : DocumentData) (is : IsDocument command doc) 
 
   reason_named : (claim : Claim) (reason : Reason) → IsClaimWithin doc.firms doc.ends claim
       → Refutes doc.firms doc.ends claim reason → IsNamedReason doc.names reason
-  reason_named (Equilibrium at surplus) reason within refutes =
+  reason_named (on_market (Equilibrium at surplus)) reason within refutes =
       equilibrium_named at.on (price_at at.prices) surplus reason refutes
-  reason_named (Solved at surplus) reason within refutes =
+  reason_named (on_market (Solved at surplus)) reason within refutes =
       equilibrium_named at.on (price_at at.prices) surplus reason refutes
-  reason_named (Supported on prices) reason within refutes = lack_named (pos 1) on (price_at prices) reason refutes
-  reason_named (Better at f x gain) reason within refutes =
+  reason_named (on_market (Supported on prices)) reason within refutes = lack_named (pos 1) on (price_at prices) reason refutes
+  reason_named (on_market (Better at f x gain)) reason within refutes =
       better_named at.on (price_at at.prices) f x gain reason refutes
-  reason_named (Impossible on f) (Possible g) within refutes = claimed_named f g refutes.0 refutes.1
-  reason_named (Impossible on f) reason within refutes = absurd refutes
-  reason_named (Cycle on nodes cost) reason within refutes =
+  reason_named (on_market (Impossible on f)) (Possible g) within refutes = claimed_named f g refutes.0 refutes.1
+  reason_named (on_market (Impossible on f)) reason within refutes = absurd refutes
+  reason_named (on_market (Cycle on nodes cost)) reason within refutes =
       cycle_named on (map (node_of (length doc.ends)) nodes) cost reason refutes
-  reason_named (Drops outcome f keeps gain over) reason within refutes =
+  reason_named (on_market (Drops outcome f keeps gain over)) reason within refutes =
       drops_named outcome f keeps gain over reason within.1 refutes
-  reason_named (Completes outcome prices over) reason within refutes =
+  reason_named (on_market (Completes outcome prices over)) reason within refutes =
       completes_named outcome (price_at prices) over reason within.0 refutes
-  reason_named (Blocks outcome contracts over) reason within refutes =
+  reason_named (on_market (Blocks outcome contracts over)) reason within refutes =
       blocks_named outcome contracts over reason within.1 refutes
-  reason_named (NoPrices plan over) reason within refutes = plan_named plan over reason refutes
-  reason_named Accepted (Exchange f x y at) within refutes = failure_named command doc is f x y at refutes
-  reason_named Accepted reason within refutes = absurd refutes
-  reason_named (ExchangeFails f x y at) Holds within refutes = tt
-  reason_named (ExchangeFails f x y at) reason within refutes = absurd refutes
+  reason_named (on_firms (NoPrices plan over)) reason within refutes = plan_named plan over reason refutes
+  reason_named (on_firms Accepted) (Exchange f x y at) within refutes = failure_named command doc is f x y at refutes
+  reason_named (on_firms Accepted) reason within refutes = absurd refutes
+  reason_named (on_firms (ExchangeFails f x y at)) Holds within refutes = tt
+  reason_named (on_firms (ExchangeFails f x y at)) reason within refutes = absurd refutes
 
   pub decided_named : (claim : Claim) (said : Said) → IsClaimWithin doc.firms doc.ends claim
       → DecidesClaim doc.firms doc.ends claim said → IsNamedAnswer doc.names said
@@ -169,52 +170,52 @@ module _ (command : Command) (doc : DocumentData) (is : IsDocument command doc) 
 
   better_reason : (claim : Claim) (f : ℕ) (bundle : List ℕ) → Refutes doc.firms doc.ends claim (BetterIs f bundle)
       → IsStrictlyIncreasing bundle
-  better_reason (Equilibrium at surplus) f bundle refutes =
+  better_reason (on_market (Equilibrium at surplus)) f bundle refutes =
       better_ascends (pos 1) at.on (price_at at.prices) f bundle refutes
-  better_reason (Solved at surplus) f bundle refutes =
+  better_reason (on_market (Solved at surplus)) f bundle refutes =
       better_ascends (pos 1) at.on (price_at at.prices) f bundle refutes
-  better_reason (Supported on prices) f bundle refutes = better_ascends (pos 1) on (price_at prices) f bundle refutes
-  better_reason (Completes outcome prices over) f bundle refutes =
+  better_reason (on_market (Supported on prices)) f bundle refutes = better_ascends (pos 1) on (price_at prices) f bundle refutes
+  better_reason (on_market (Completes outcome prices over)) f bundle refutes =
       better_ascends over (signed (length doc.ends) outcome.contracts) (price_at prices) f bundle refutes.2
-  better_reason (Better at g x gain) f bundle refutes = absurd refutes
-  better_reason (Impossible on g) f bundle refutes = absurd refutes
-  better_reason (Cycle on nodes cost) f bundle refutes = absurd refutes
-  better_reason (Drops outcome g keeps gain over) f bundle refutes = absurd refutes
-  better_reason (Blocks outcome contracts over) f bundle refutes = absurd refutes
-  better_reason (NoPrices plan over) f bundle refutes = absurd refutes
-  better_reason Accepted f bundle refutes = absurd refutes
-  better_reason (ExchangeFails g x y at) f bundle refutes = absurd refutes
+  better_reason (on_market (Better at g x gain)) f bundle refutes = absurd refutes
+  better_reason (on_market (Impossible on g)) f bundle refutes = absurd refutes
+  better_reason (on_market (Cycle on nodes cost)) f bundle refutes = absurd refutes
+  better_reason (on_market (Drops outcome g keeps gain over)) f bundle refutes = absurd refutes
+  better_reason (on_market (Blocks outcome contracts over)) f bundle refutes = absurd refutes
+  better_reason (on_firms (NoPrices plan over)) f bundle refutes = absurd refutes
+  better_reason (on_firms Accepted) f bundle refutes = absurd refutes
+  better_reason (on_firms (ExchangeFails g x y at)) f bundle refutes = absurd refutes
 
   exchange_reason : (claim : Claim) (f : ℕ) (x y : List ℕ) (at : Option ℕ)
       → Refutes doc.firms doc.ends claim (Exchange f x y at) → HasAscendingBundles (Exchange f x y at)
-  exchange_reason Accepted f x y at refutes = failure_ascends command doc is f x y at refutes
-  exchange_reason (Equilibrium arranged surplus) f x y at refutes = absurd refutes
-  exchange_reason (Solved arranged surplus) f x y at refutes = absurd refutes
-  exchange_reason (Supported on prices) f x y at refutes = absurd refutes
-  exchange_reason (Completes outcome prices over) f x y at refutes = absurd refutes.2
-  exchange_reason (Better arranged g bundle gain) f x y at refutes = absurd refutes
-  exchange_reason (Impossible on g) f x y at refutes = absurd refutes
-  exchange_reason (Cycle on nodes cost) f x y at refutes = absurd refutes
-  exchange_reason (Drops outcome g keeps gain over) f x y at refutes = absurd refutes
-  exchange_reason (Blocks outcome contracts over) f x y at refutes = absurd refutes
-  exchange_reason (ExchangeFails g one other position) f x y at refutes = absurd refutes
-  exchange_reason (NoPrices plan over) f x y at refutes = absurd refutes
+  exchange_reason (on_firms Accepted) f x y at refutes = failure_ascends command doc is f x y at refutes
+  exchange_reason (on_market (Equilibrium arranged surplus)) f x y at refutes = absurd refutes
+  exchange_reason (on_market (Solved arranged surplus)) f x y at refutes = absurd refutes
+  exchange_reason (on_market (Supported on prices)) f x y at refutes = absurd refutes
+  exchange_reason (on_market (Completes outcome prices over)) f x y at refutes = absurd refutes.2
+  exchange_reason (on_market (Better arranged g bundle gain)) f x y at refutes = absurd refutes
+  exchange_reason (on_market (Impossible on g)) f x y at refutes = absurd refutes
+  exchange_reason (on_market (Cycle on nodes cost)) f x y at refutes = absurd refutes
+  exchange_reason (on_market (Drops outcome g keeps gain over)) f x y at refutes = absurd refutes
+  exchange_reason (on_market (Blocks outcome contracts over)) f x y at refutes = absurd refutes
+  exchange_reason (on_firms (ExchangeFails g one other position)) f x y at refutes = absurd refutes
+  exchange_reason (on_firms (NoPrices plan over)) f x y at refutes = absurd refutes
 
   whole_reason : (claim : Claim) (on : List ℕ) (surplus : ℤ) → Refutes doc.firms doc.ends claim (Whole on surplus)
       → IsStrictlyIncreasing on
-  whole_reason (NoPrices plan over) on surplus refutes = let whole = refutes.3 in
+  whole_reason (on_firms (NoPrices plan over)) on surplus refutes = let whole = refutes.3 in
       set_ascends command doc is whole.on on whole.listed_is
-  whole_reason (Equilibrium at told) on surplus refutes = absurd refutes
-  whole_reason (Solved at told) on surplus refutes = absurd refutes
-  whole_reason (Supported set prices) on surplus refutes = absurd refutes
-  whole_reason (Completes outcome prices over) on surplus refutes = absurd refutes.2
-  whole_reason (Better at f x gain) on surplus refutes = absurd refutes
-  whole_reason (Impossible set f) on surplus refutes = absurd refutes
-  whole_reason (Cycle set nodes cost) on surplus refutes = absurd refutes
-  whole_reason (Drops outcome f keeps gain over) on surplus refutes = absurd refutes
-  whole_reason (Blocks outcome contracts over) on surplus refutes = absurd refutes
-  whole_reason Accepted on surplus refutes = absurd refutes
-  whole_reason (ExchangeFails f x y at) on surplus refutes = absurd refutes
+  whole_reason (on_market (Equilibrium at told)) on surplus refutes = absurd refutes
+  whole_reason (on_market (Solved at told)) on surplus refutes = absurd refutes
+  whole_reason (on_market (Supported set prices)) on surplus refutes = absurd refutes
+  whole_reason (on_market (Completes outcome prices over)) on surplus refutes = absurd refutes.2
+  whole_reason (on_market (Better at f x gain)) on surplus refutes = absurd refutes
+  whole_reason (on_market (Impossible set f)) on surplus refutes = absurd refutes
+  whole_reason (on_market (Cycle set nodes cost)) on surplus refutes = absurd refutes
+  whole_reason (on_market (Drops outcome f keeps gain over)) on surplus refutes = absurd refutes
+  whole_reason (on_market (Blocks outcome contracts over)) on surplus refutes = absurd refutes
+  whole_reason (on_firms Accepted) on surplus refutes = absurd refutes
+  whole_reason (on_firms (ExchangeFails f x y at)) on surplus refutes = absurd refutes
 
   reason_ascends : (claim : Claim) (reason : Reason) → Refutes doc.firms doc.ends claim reason
       → HasAscendingBundles reason

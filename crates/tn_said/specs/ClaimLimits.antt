@@ -2,8 +2,9 @@
 use Rattle.std.specs.Prelude.{◌≡◌, ℕ, ◌^◌, ◌<◌, ◌≤◌, ℤ, pos, ◌≤ℤ◌, List, length, slice_get, All, Option, Some, IfSome}
 use Rattle.tn_base.specs.Arcs.{IsAtMost}
 use Rattle.tn_base.specs.Firm.{Firm}
-use Rattle.tn_said.specs.declared.claim.Claim.{Claim}
-use Rattle.tn_said.specs.declared.claim.Claim.TheVariants.{Equilibrium, Better, Impossible, Accepted, ExchangeFails, Supported, Cycle, Solved, Drops, Completes, Blocks, NoPrices}
+use Rattle.tn_said.specs.Claim.{Claim, on_market, on_firms}
+use Rattle.tn_said.specs.declared.claim.MarketClaim.TheVariants.{Equilibrium, Better, Impossible, Supported, Cycle, Solved, Drops, Completes, Blocks}
+use Rattle.tn_said.specs.declared.claim.FirmClaim.TheVariants.{Accepted, ExchangeFails, NoPrices}
 use Rattle.tn_model.specs.declared.contract.Contract.{Contract}
 use Rattle.tn_model.specs.declared.ends.Ends.{Ends}
 use Rattle.tn_said.specs.declared.part.Part.{Part}
@@ -45,26 +46,26 @@ IsPartWithin firms part = IsFirmWith firms part.firm (λ firm. part.bundle < 2 ^
 
 -- a claim on a network speaks of its firms, trades and positions, within the limits of numbers
 abbrev pub IsClaimWithin : List Firm → List Ends → Claim → Type 0
-IsClaimWithin firms trades (Equilibrium at surplus) = (at.on < 2 ^ length trades)
+IsClaimWithin firms trades (on_market (Equilibrium at surplus)) = (at.on < 2 ^ length trades)
     × ArePricesWithin (length trades) most_price at.prices × IsNumberWithin surplus
-IsClaimWithin firms trades (Better at f x gain) = (at.on < 2 ^ length trades)
+IsClaimWithin firms trades (on_market (Better at f x gain)) = (at.on < 2 ^ length trades)
     × ArePricesWithin (length trades) most_price at.prices × IsFirmWith firms f (λ firm. x < 2 ^ firm.count)
     × IsNumberWithin gain
-IsClaimWithin firms trades (Impossible on f) = (on < 2 ^ length trades) × (f < length firms)
-IsClaimWithin firms trades Accepted = Unit {0}
-IsClaimWithin firms trades (ExchangeFails f x y at) = IsFirmWith firms f
+IsClaimWithin firms trades (on_market (Impossible on f)) = (on < 2 ^ length trades) × (f < length firms)
+IsClaimWithin firms trades (on_firms Accepted) = Unit {0}
+IsClaimWithin firms trades (on_firms (ExchangeFails f x y at)) = IsFirmWith firms f
     (λ firm. (x < 2 ^ firm.count) × (y < 2 ^ firm.count) × IfSome at (λ k. k < firm.count))
-IsClaimWithin firms trades (Supported on prices) = (on < 2 ^ length trades)
+IsClaimWithin firms trades (on_market (Supported on prices)) = (on < 2 ^ length trades)
     × ArePricesWithin (length trades) most_number prices
-IsClaimWithin firms trades (Cycle on nodes cost) = (on < 2 ^ length trades) × AreNodesWithin (length trades) nodes
+IsClaimWithin firms trades (on_market (Cycle on nodes cost)) = (on < 2 ^ length trades) × AreNodesWithin (length trades) nodes
     × IsNumberWithin cost
-IsClaimWithin firms trades (Solved at surplus) = (at.on < 2 ^ length trades)
+IsClaimWithin firms trades (on_market (Solved at surplus)) = (at.on < 2 ^ length trades)
     × ArePricesWithin (length trades) most_number at.prices × IsNumberWithin surplus
-IsClaimWithin firms trades (Drops outcome f keeps gain over) = IsOutcomeWithin (length trades) outcome
+IsClaimWithin firms trades (on_market (Drops outcome f keeps gain over)) = IsOutcomeWithin (length trades) outcome
     × IsFirmWith firms f (λ firm. keeps < 2 ^ firm.count) × IfSome gain IsNumberWithin × IsOverWithin over
-IsClaimWithin firms trades (Completes outcome prices over) = IsOutcomeWithin (length trades) outcome
+IsClaimWithin firms trades (on_market (Completes outcome prices over)) = IsOutcomeWithin (length trades) outcome
     × ArePricesWithin (length trades) most_number prices × IsOverWithin over
-IsClaimWithin firms trades (Blocks outcome contracts over) = IsOutcomeWithin (length trades) outcome
+IsClaimWithin firms trades (on_market (Blocks outcome contracts over)) = IsOutcomeWithin (length trades) outcome
     × AreOffersWithin trades contracts × IsOverWithin over
-IsClaimWithin firms trades (NoPrices plan over) = (length trades ≤ most_planned_trades) × All (IsPartWithin firms) plan
+IsClaimWithin firms trades (on_firms (NoPrices plan over)) = (length trades ≤ most_planned_trades) × All (IsPartWithin firms) plan
     × IsOverWithin over × (length plan ≤ most_parts)

@@ -4,10 +4,10 @@ use crate::lists::Parts;
 use tn_base::{Bundle, TradeSet};
 use tn_model::{Arrangement, Contracts, Nodes, Outcome, Prices};
 
-/// What somebody claims of a network, with the part of the document that the claim speaks of. Each claim but the
-/// last is an answer of the program. Bundles and positions are those of the claimed firm.
+/// What somebody claims of a market, with the part of the document that the claim speaks of. Each claim is an answer of
+/// the program. Bundles are those of the claimed firm.
 #[derive(Drop)]
-pub enum Claim {
+pub enum MarketClaim {
     /// The arrangement is an equilibrium with this surplus.
     Equilibrium {
         /// The document's arrangement.
@@ -32,19 +32,6 @@ pub enum Claim {
         on: TradeSet<16>,
         /// The firm.
         firm: u32,
-    },
-    /// Every firm meets the exchange property.
-    Accepted,
-    /// The triple of two bundles and a position, or none, fails at the firm.
-    ExchangeFails {
-        /// The firm.
-        firm: u32,
-        /// The first bundle.
-        x: Bundle,
-        /// The second bundle.
-        y: Bundle,
-        /// The position that can't be exchanged, or none where the net count can't be.
-        at: Option<u32>,
     },
     /// The prices support the set.
     Supported {
@@ -99,6 +86,25 @@ pub enum Claim {
         contracts: Contracts,
         /// Their denominator.
         over: i128,
+    },
+}
+
+/// What somebody claims of firms as they are listed, whether they meet the exchange property or not. Each claim but the
+/// last is an answer of the program. Bundles and positions are those of the claimed firm.
+#[derive(Drop)]
+pub enum FirmClaim {
+    /// Every firm meets the exchange property.
+    Accepted,
+    /// The triple of two bundles and a position, or none, fails at the firm.
+    ExchangeFails {
+        /// The firm.
+        firm: u32,
+        /// The first bundle.
+        x: Bundle,
+        /// The second bundle.
+        y: Bundle,
+        /// The position that can't be exchanged, or none where the net count can't be.
+        at: Option<u32>,
     },
     /// The plan in parts is worth more than any set of trades, so that no prices make one an equilibrium.
     NoPrices {

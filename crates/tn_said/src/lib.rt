@@ -13,7 +13,7 @@ mod reason;
 mod said;
 mod session;
 
-pub use claim::Claim;
+pub use claim::{FirmClaim, MarketClaim};
 pub use fault::FaultKind;
 pub use holding::Holding;
 pub use lists::{Edits, Holdings, Numbers, Parts, Place, States};

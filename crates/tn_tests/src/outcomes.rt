@@ -1,8 +1,8 @@
 //! Outcomes between two stalls, and claims about them.
 
-ghost use Rattle.std.specs.Prelude.{◌≡◌, List, IfOk, false, [], ◌∷◌};
+ghost use Rattle.std.specs.Prelude.{List, IfOk, [], ◌∷◌};
 ghost use Rattle.tn_base.specs.Firm.{Firm};
-ghost use Rattle.tn_cert.specs.Replays.{is_raw};
+ghost use Rattle.tn_said.specs.Claim.{on_market};
 ghost use Rattle.tn_said.specs.ClaimLimits.{IsClaimWithin, IsNumberWithin};
 ghost use Rattle.tn_tests.specs.Stall.{trade_between};
 
@@ -14,7 +14,7 @@ use tn_chain::{chain_scale, reduced_graph};
 use tn_judge::{Judged, judge};
 use tn_market::{Arrangement, Nodes, Prices, Valuation};
 use tn_residual::{contract_price, reduced_best, residual};
-use tn_said::{Claim, Reason};
+use tn_said::{MarketClaim, Reason};
 
 /// The seller keeps its contract at 4, and the buyer, to whom the thing is worth -3, drops its own. In the residual
 /// market the other trade stays, and a firm outside stands between the two stalls. Twice what a worth may be among two
@@ -112,36 +112,34 @@ fn verdicts_on_three_outcomes(rt: HostRuntime) {
 
 /// Both trades are on at -4, an equilibrium with this surplus.
 #[tactic(auto, unfolding(tn_base::specs::Sets::toggle))]
-fn both_on(alloc: Global, surplus: i128) -> Result<Claim, OutOfMemory>
+fn both_on(alloc: Global, surplus: i128) -> Result<MarketClaim, OutOfMemory>
     requires { IsNumberWithin surplus }
-    ensures within { IfOk result (λ claim. (firms : List Firm)
-        → IsClaimWithin firms (trade_between 0 1 ∷ trade_between 1 0 ∷ []) claim) }
-    ensures kind { IfOk result (λ claim. is_raw claim ≡ false) }
+    ensures { IfOk result (λ claim. (firms : List Firm)
+        → IsClaimWithin firms (trade_between 0 1 ∷ trade_between 1 0 ∷ []) (on_market claim)) }
 {
     let mut on = TradeSet::empty();
     on.toggle(0);
     on.toggle(1);
     let prices = Prices::from_vec(vec![in alloc; -4, -4]?);
     let at = Arrangement { on, prices };
-    Ok(Claim::Equilibrium { at, surplus })
+    Ok(MarketClaim::Equilibrium { at, surplus })
 }
 
 /// Trade 0 put on, from null and back, at this cost.
-fn round(alloc: Global, cost: i128) -> Result<Claim, OutOfMemory>
+fn round(alloc: Global, cost: i128) -> Result<MarketClaim, OutOfMemory>
     requires { IsNumberWithin cost }
-    ensures within { IfOk result (λ claim. (firms : List Firm)
-        → IsClaimWithin firms (trade_between 0 1 ∷ trade_between 1 0 ∷ []) claim) }
-    ensures kind { IfOk result (λ claim. is_raw claim ≡ false) }
+    ensures { IfOk result (λ claim. (firms : List Firm)
+        → IsClaimWithin firms (trade_between 0 1 ∷ trade_between 1 0 ∷ []) (on_market claim)) }
 {
     let on = TradeSet::empty();
     let nodes = Nodes::from_vec(vec![in alloc; None, Some(0)]?);
-    Ok(Claim::Cycle { on, nodes, cost })
+    Ok(MarketClaim::Cycle { on, nodes, cost })
 }
 
 /// What replay says of a claim about two stalls.
-fn replayed(alloc: Global, claim: Claim) -> Result<Replayed, OutOfMemory>
-    requires within { (firms : List Firm) → IsClaimWithin firms (trade_between 0 1 ∷ trade_between 1 0 ∷ []) claim }
-    requires kind { is_raw claim ≡ false }
+fn replayed(alloc: Global, claim: MarketClaim) -> Result<Replayed, OutOfMemory>
+    requires { (firms : List Firm)
+        → IsClaimWithin firms (trade_between 0 1 ∷ trade_between 1 0 ∷ []) (on_market claim) }
 {
     let market = two_stalls(alloc)?;
     replay(alloc, &market, &claim, &mut Steps::new(Asked))
