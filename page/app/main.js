@@ -8,6 +8,7 @@ import {readyBuild, showBuild} from "./form/build.js";
 import {readyClaim, showClaim} from "./form/claim.js";
 import {showFirms} from "./network/firms.js";
 import {handle} from "./network/hand.js";
+import {readyNudge, showNudge} from "./network/nudge.js";
 import {showPath, trace} from "./network/path.js";
 import {showScene} from "./network/scene.js";
 import {readyTrades, showTrades, typePrice} from "./network/trades.js";
@@ -81,6 +82,7 @@ function show(value) {
     showStory(value);
     showWhatIf(value);
     showScene(value);
+    showNudge(value);
     showFirms(value);
     showTrades(value);
     showPath(value);
@@ -101,6 +103,7 @@ async function start() {
     const documents = documentsOf(JSON.parse(partOf("documents")));
     readyEditor(store);
     readyTrades(store);
+    readyNudge(store);
     readyClaim(store);
     readyBuild(store);
     handle(store, typePrice);

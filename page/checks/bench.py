@@ -43,7 +43,7 @@ return {
 EDITED = "document.querySelector('.CodeMirror').CodeMirror.getValue()"
 
 KEYS = {"Control": "\ue009", "Shift": "\ue008", "ArrowUp": "\ue013", "ArrowDown": "\ue015", "ArrowRight": "\ue014", "Enter": "\ue007", "End": "\ue010",
-        "Backspace": "\ue003", "Tab": "\ue004"}
+        "Backspace": "\ue003", "Escape": "\ue00c", "Tab": "\ue004"}
 
 
 class Bench(look.Page):
@@ -90,6 +90,14 @@ class Bench(look.Page):
 
     def click(self, selector: str) -> None:
         self.drag(selector, 0)
+
+    def swipe(self, selector: str, dx: int, dy: int) -> None:
+        """Puts a finger on the middle of an element, draws it over the screen by some pixels, and lifts it."""
+        x, y = self.browser.run(MIDDLE, selector)
+        move = {"type": "pointerMove", "origin": "viewport", "duration": 10}
+        moves = [{**move, "x": x + dx * k // 4, "y": y + dy * k // 4} for k in range(1, 5)] if dx or dy else []
+        steps = [{**move, "x": x, "y": y}, {"type": "pointerDown", "button": 0}, *moves, {"type": "pointerUp", "button": 0}]
+        self.browser.act([{"type": "pointer", "id": "finger", "parameters": {"pointerType": "touch"}, "actions": steps}])
 
     def press(self, *keys: str) -> None:
         """Keys one after another; "Control+z" holds the first while it presses the second."""
@@ -143,7 +151,7 @@ def label(trade_ends: str) -> str:
 
 def tries(page: Bench, program: str | None):
     """Each as a name, and whether it is so."""
-    for part in (tries_to_guess, tries_of_undo, tries_to_solve, tries_of_ranges, tries_of_what_goes, tries_of_complements, tries_of_reasons,
+    for part in (tries_to_guess, tries_by_finger, tries_of_refusals, tries_of_undo, tries_to_solve, tries_of_ranges, tries_of_what_goes, tries_of_complements, tries_of_reasons,
                  tries_of_first_steps, tries_to_sign, tries_of_claims, tries_of_the_text, tries_of_files, tries_of_size, tries_of_ill_will):
         yield from part(page, program)
 
@@ -179,6 +187,78 @@ def tries_to_guess(page: Bench, program: str | None):
     yield "the table of firms has the program's numbers", cells == wanted
     page.drag(label("D B1"), -32)
     yield "a drag upwards makes a price greater", page.guess() != "" and '["db1",15]' in page.text()
+
+
+# The least side of each button of the chosen trade, in pixels.
+BUTTONS = """
+return [...document.querySelectorAll("#nudge button")].map((button) => {
+    const {width, height} = button.getBoundingClientRect();
+    return Math.min(width, height);
+});"""
+
+
+def tries_by_finger(page: Bench, program: str | None):
+    page.open("used-cars.json", look.example("used-cars.json"))
+    first = page.text()
+    for dx, dy in ((0, -60), (0, 60), (50, 0)):
+        page.swipe(label("D B1"), dx, dy)
+    yield "a finger that is drawn over a price changes none", page.text() == first
+    page.swipe(label("O1 B1"), 0, 0)
+    yield "and one that is put on it turns the trade on", "o1b1" in json.loads(page.text())["arrangement"]["on"] and page.guess() != ""
+    yield "the chosen trade has buttons for a finger", page.says("nudge-says") == "o1b1 at 8" and min(page.browser.run(BUTTONS)) >= 44
+    page.swipe("#nudge-more", 0, 0)
+    page.swipe("#nudge-more", 0, 0)
+    page.swipe("#nudge-less", 0, 0)
+    yield "by which its price changes", page.says("nudge-says") == "o1b1 at 9" and ["o1b1", 9] in json.loads(page.text())["arrangement"]["prices"]
+    page.press("Control+z")
+    yield "which is taken back as one change", ["o1b1", 8] in json.loads(page.text())["arrangement"]["prices"]
+    page.click("#tab-whatif")
+    yield "in a what-if there are none", page.value("document.getElementById('nudge').hidden")
+    page.click("#tab-guess")
+    small = page.value("[...document.querySelectorAll('input, select, textarea')].filter((each) => parseFloat(getComputedStyle(each).fontSize) < 16).map(({id}) => id)")
+    yield f"no field's letters are so small that a telephone zooms {small}", small == []
+    yield "and a price's keyboard has a minus", page.value("document.querySelector('[data-key=\"price:o1b1\"]').inputMode") in ("", "text")
+
+
+# What is said beside the field of a key, and what stands in it.
+REFUSED = """
+const field = [...document.querySelectorAll("[data-key]")].find((element) => element.dataset.key === arguments[0]);
+const said = field.getAttribute("aria-describedby");
+return [field.value, field.getAttribute("aria-invalid"), said === null ? "" : document.getElementById(said).textContent];"""
+
+
+def refused(page: Bench, key: str, typed: str) -> list:
+    """What becomes of a text that is typed in a field, which is left then."""
+    page.focus(key)
+    page.press("Control+a", "Backspace", *typed, "Tab")
+    return page.browser.run(REFUSED, key)
+
+
+def tries_of_refusals(page: Bench, program: str | None):
+    page.open("used-cars.json", look.example("used-cars.json"))
+    first = page.text()
+    for typed, now, why in (("5.5", 5, "isn't whole"), ("-30,5", -30, "isn't whole"), ("11/2", 11, "is a fraction"), ("abc", 11, "is no number"), ("-", 11, "is wanted"),
+                            ("1234567890123456789", 123456789012345678, "is too long")):
+        value, invalid, said = refused(page, "price:o1d", typed)
+        yield f"{typed} as a price is refused, with why and what stands there", (value, invalid) == (typed, "true") and why in said and said.endswith(f"{now} stands there until then.")
+        yield "and the text has that", page.text() == first.replace('["o1d",8]', f'["o1d",{now}]')
+    page.focus("price:o1d")
+    page.press("Escape")
+    yield "Escape puts the price back", page.browser.run(REFUSED, "price:o1d") == ["123456789012345678", "false", ""]
+    yield "a plus and zeros ahead are none of its business", refused(page, "price:o1d", "+012") == ["12", "false", ""] and '["o1d",12]' in page.text()
+    refused(page, "price:o1d", "x")
+    page.focus("lane:O1 D")
+    page.press("ArrowUp")
+    yield "what was refused goes when the price changes", page.browser.run(REFUSED, "price:o1d") == ["13", "false", ""]
+    page.open("used-cars.json", look.example("used-cars.json"))
+    page.click("#tab-build")
+    for typed, why in (("O 1", "not: a blank"), ("M\u00fcller", "not: \u00fc"), ("D", "is there already"), ("", "A name is wanted")):
+        value, invalid, said = refused(page, "firm name", typed)
+        yield f"{typed or 'nothing'} as a name is refused with the reason", (value, invalid) == (typed, "true") and why in said and page.text() == first
+    page.focus("firm name")
+    page.press("Escape")
+    yield "Escape puts the name back", page.browser.run(REFUSED, "firm name") == ["O1", "false", ""]
+    page.click("#tab-guess")
 
 
 def tries_of_undo(page: Bench, program: str | None):
@@ -584,7 +664,31 @@ URL.createObjectURL = (blob) => made(last = blob);
 HTMLAnchorElement.prototype.click = function () {
     window.offered.push([this.download, last]);
 };"""
-OFFERED = "return Promise.all(window.offered.splice(0).map(async ([name, blob]) => [name, await blob.text()]));"
+OFFERED = """
+return Promise.all(window.offered.splice(0).map(async ([name, blob]) =>
+    [name, new TextDecoder("utf-8", {ignoreBOM: true}).decode(await blob.arrayBuffer())]));"""
+
+
+# Takes the place of the clipboard, which a browser without a window may refuse.
+CLIPBOARD = """
+window.copied = [];
+Object.defineProperty(navigator, "clipboard", {configurable: true, value: {writeText: (text) => Promise.resolve(window.copied.push(text))}});"""
+
+# How a picture of pixels looks that is offered: its size, and how many of its points are neither white nor clear.
+PIXELS = """
+return new Promise((done) => {
+    const look = async () => {
+        if (window.offered.length === 0) return setTimeout(look, 50);
+        const [name, blob] = window.offered.pop(), picture = await createImageBitmap(blob), canvas = document.createElement("canvas");
+        [canvas.width, canvas.height] = [picture.width, picture.height];
+        canvas.getContext("2d").drawImage(picture, 0, 0);
+        const points = canvas.getContext("2d").getImageData(0, 0, picture.width, picture.height).data;
+        let inked = 0;
+        for (let k = 0; k < points.length; k += 4) inked += points[k] + points[k + 1] + points[k + 2] < 700;
+        done([name, blob.type, picture.width, inked]);
+    };
+    look();
+});"""
 
 
 def tries_of_files(page: Bench, program: str | None):
@@ -599,15 +703,30 @@ def tries_of_files(page: Bench, program: str | None):
     page.click("#tab-guess")
     for button in ("#save", "#picture-save", "#firms-csv", "#ranges-csv"):
         page.click(button)
-    page.click("#ranges")
     offered = dict(page.browser.run(OFFERED))
     files = {name.removeprefix("used-cars-dear-car"): text for name, text in offered.items()}
     yield "each is offered as a file", list(files) == ["-solve.csv", ".json", ".svg", "-firms.csv", "-ranges.csv"]
     yield "rows as the program wrote them", files["-solve.csv"].startswith("trade,on,price\no1d,1,8\n")
     yield "the document as it is", files[".json"] == page.text()
-    yield "a picture", files[".svg"].startswith("<svg") and "could have 1" in files[".svg"]
-    yield "firms as rows", 'D,"o1d, db1",-1,0,"o2d, db1",1\n' in files["-firms.csv"]
-    yield "ranges as rows", "\no1d,1,8,10\n" in files["-ranges.csv"]
+    yield "the picture that is on the screen", files[".svg"].startswith("<svg") and "\u2717 0" in files[".svg"] and "best 1" in files[".svg"]
+    yield "firms as a table with the heads that are shown", files["-firms.csv"].startswith("\ufeffFirm,Has,Worth,Utility,Would rather,Gain\n")
+    yield "and with its cells", 'D,"o1d, db1",-1,0,"o2d, db1",1\n' in files["-firms.csv"]
+    yield "ranges as a table", files["-ranges.csv"].startswith("\ufeffTrade,On,Lowest,Highest\n") and "\no1d,1,8,10\n" in files["-ranges.csv"]
+    page.browser.run(CLIPBOARD)
+    for button in ("#firms-copy", "#ranges-copy"):
+        page.click(button)
+    copied = page.value("window.copied")
+    yield "tables are put on the clipboard", copied[0].startswith("Firm\tHas\t") and "\nD\to1d, db1\t-1\t0\to2d, db1\t1\n" in copied[0] and "\no1d\t1\t8\t10\n" in copied[1]
+    page.click("#ranges")
+    page.open("used-cars-bypassed.json", look.example("used-cars-bypassed.json"))
+    judged(page)
+    page.click("#story-next")
+    page.click("#picture-save")
+    [[_, drawn]] = page.browser.run(OFFERED)
+    yield "a picture has what a step says in the boxes", "has 0" in drawn and "then 1" in drawn and "class=" not in drawn and 'fill="rgb(' in drawn
+    page.click("#picture-pixels")
+    name, kind, width, inked = page.browser.run(PIXELS)
+    yield "and is saved as pixels too", (name, kind) == ("used-cars-bypassed.png", "image/png") and width > 600 and inked > 2000
     yield "the command for a terminal stands there", line == "market solve --csv < used-cars-dear-car.json"
 
 

@@ -5,7 +5,8 @@ import {networkOf} from "../document/state.js";
 import {offer, on, part, write} from "../shell/page.js";
 import {forgetDone} from "./begun.js";
 import {exerciseIn, exerciseMade, GOALS, resultText} from "./exercise.js";
-import {saveResults} from "./results.js";
+import {copyTable, saveTable} from "../sharing/tables.js";
+import {resultsTable} from "./results.js";
 
 /** Binds all that. `other` is the name and the text of what is looked at when an exercise is left, and nothing was before it. */
 export function bindLesson(store, [other, text]) {
@@ -18,7 +19,8 @@ export function bindLesson(store, [other, text]) {
         offer(file, resultText(document, name), "application/json");
         forgetDone(document);
     });
-    on("results-csv", () => saveResults(store.value));
+    on("results-csv", () => saveTable("results", resultsTable(store.value)));
+    on("results-copy", () => copyTable(resultsTable(store.value)));
     on("results-forget", () => store.act("forgot"));
     part("results").addEventListener("click", ({target}) => {
         const result = store.value.results[target.closest("[data-result]")?.dataset.result];

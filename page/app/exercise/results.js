@@ -2,8 +2,7 @@
 import {NoAnswer, readAnswer} from "../../read/answer.js";
 import {say} from "../../words/say.js";
 import {Ended, NoAnswerCame} from "../program/ask.js";
-import {rows} from "../sharing/exports.js";
-import {made, offer, part} from "../shell/page.js";
+import {made, part} from "../shell/page.js";
 import {GOALS, resultIn} from "./exercise.js";
 
 const HEADS = ["head.name", "head.exercise", "head.reached", "head.tries", "head.given"];
@@ -109,11 +108,7 @@ function cellsOf(result) {
         say(GIVEN[isGiven])];
 }
 
-export function saveResults({results}) {
-    offer("results.csv", rows([HEADS.map((head) => say(head)), ...results.map(quotedRow)]), "text/csv");
-}
-
-/** The row in a file: what a pupil wrote begins no formula of a spreadsheet. */
-function quotedRow(result) {
-    return cellsOf(result).map((cell) => cell.replace(/^[=+\-@\t]/, "'$&"));
+/** The table, with its heads. */
+export function resultsTable({results}) {
+    return [HEADS.map((head) => say(head)), ...results.map(cellsOf)];
 }

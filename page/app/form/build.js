@@ -2,6 +2,7 @@
 import {say} from "../../words/say.js";
 import {networkOf} from "../document/state.js";
 import {keepingFocus, made, part, write} from "../shell/page.js";
+import {isRefused, leaving, refuse, typedIn} from "../shell/whole.js";
 import {formOf} from "./fields.js";
 
 let store = null, shownOf = null, structure = "", controls = new Map();
@@ -77,31 +78,22 @@ function labelled(...parts) {
 }
 
 function textForm({kind, key}) {
-    const looks = {size: kind === "name" ? 8 : 4, inputmode: kind === "number" ? "numeric" : null};
-    const input = made("input", "", {type: "text", ...looks, autocomplete: "off", spellcheck: "false", "data-key": key});
-    const own = () => controls.get(input.dataset.key);
-    input.addEventListener(kind === "name" ? "change" : "input", () => {
-        const content = input.value.trim(), {isRight, value} = own();
-        input.setAttribute("aria-invalid", `${!isRight(content)}`);
-        if (isRight(content) && content !== value) enter(input, content, `form ${input.dataset.key}`);
-    });
-    input.addEventListener("blur", () => own() && written(input, own().value));
+    const input = made("input", "", {type: "text", size: kind === "name" ? 8 : 4, autocomplete: "off", spellcheck: "false", "data-key": key});
+    const own = () => controls.get(input.dataset.key), take = (content) => content !== own().value && enter(input, content, `form ${input.dataset.key}`);
+    const reading = {read: (text) => own().read(text.trim()), why: (text) => own().why(text.trim()), shown: () => own()?.value ?? ""};
+    input.addEventListener(kind === "name" ? "change" : "input", () => typedIn(input, {...reading, take}));
+    leaving(input, reading);
     if (kind === "number") input.addEventListener("keydown", (event) => stepped(event, input, own()));
     return labelled(made("span"), input);
 }
 
 /** The arrow keys make a number one greater or less. */
-function stepped(event, input, {isRight}) {
-    const step = {ArrowUp: 1n, ArrowDown: -1n}[event.key];
-    if (step === undefined || !isRight(input.value.trim())) return;
+function stepped(event, input, {read}) {
+    const step = {ArrowUp: 1n, ArrowDown: -1n}[event.key], now = read(input.value.trim());
+    if (step === undefined || now === null) return;
     event.preventDefault();
-    const next = String(BigInt(input.value.trim()) + step);
-    if (isRight(next)) enter(input, next);
-}
-
-function written(input, text) {
-    input.value = text;
-    input.setAttribute("aria-invalid", "false");
+    const next = read(String(BigInt(now) + step));
+    if (next !== null) enter(input, next);
 }
 
 function choiceForm({key}) {
@@ -123,15 +115,24 @@ function buttonForm({key}) {
 }
 
 /** Shows what a control says, and what stands in the text; a field that somebody types in keeps what isn't right yet. */
-function fill(element, {key, kind, name, says, value, options, isRight}) {
+function fill(element, {key, kind, name, says, value, options, read}) {
+    if (element.dataset.key !== key) delete element.dataset.shown;
     element.dataset.key = key;
     element.setAttribute("aria-label", name ?? says);
     const word = kind === "button" ? element : element.parentElement.querySelector("span");
     if (word.textContent !== says) word.textContent = says;
     if (kind === "box") element.checked = value;
     if (kind === "choice") choose(element, options, value);
-    const isFree = isRight && (element !== document.activeElement || isRight(element.value.trim()));
-    if (isFree && element.value.trim() !== value) written(element, value);
+    if (read) written(element, value, read);
+}
+
+/** Shows what stands in the text, but not in the place of what says the same, or was refused and nothing changed since. */
+function written(input, value, read) {
+    const isChanged = input.dataset.shown !== value;
+    input.dataset.shown = value;
+    if (isRefused(input) ? !isChanged : input === document.activeElement && read(input.value.trim()) === value) return;
+    refuse(input, null);
+    input.value = value;
 }
 
 /** Offers options, and chooses what stands in the text, which may be none of them. */

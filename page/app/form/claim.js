@@ -4,8 +4,10 @@ import {language, say} from "../../words/say.js";
 import {claimOf, fieldsOf, leftOut, spoilt, toggledIn} from "../document/claims.js";
 import {isOld, networkOf} from "../document/state.js";
 import {keepingFocus, made, part, write} from "../shell/page.js";
+import {isRefused, leaving, refuse, typedIn, wholeIn, whyNotWhole} from "../shell/whole.js";
 
-const WHOLE = /^-?(0|[1-9]\d{0,18})$/;
+/** The most digits of a number of a claim. */
+const MOST = 19;
 
 let store = null, shownOf = null, structure = "", fields = new Map();
 
@@ -68,34 +70,33 @@ const FORMS = {number: numberForm, choice: choiceForm, set: setForm};
 /** What stands in a form, by its field. */
 const SHOW = {
     number: (row, {node}) => {
-        const input = row.querySelector("input");
-        if (input !== document.activeElement || WHOLE.test(input.value.trim())) shownNumber(input, node.value.text);
+        const input = row.querySelector("input"), isChanged = input.dataset.number !== node.value.text;
+        input.dataset.number = node.value.text;
+        if (!isRefused(input) || isChanged) shownNumber(input, node.value.text);
     },
     choice: (row, {node}) => (row.querySelector("select").value = written(plain(node))),
     set: (row, {trades}) => row.querySelectorAll("input").forEach((box, k) => (box.checked = trades[k].isIn)),
 };
 
 function shownNumber(input, text) {
-    if (input.value.trim() !== text) input.value = text;
-    input.setAttribute("aria-invalid", "false");
+    if (input !== document.activeElement || wholeIn(input.value, MOST) !== text) input.value = text;
+    refuse(input, null);
 }
 
-const NUMBER = {type: "text", inputmode: "numeric", size: 14, autocomplete: "off"};
+const NUMBER = {type: "text", size: 14, autocomplete: "off"};
 
 function numberForm({key, says, out}) {
     const id = `claim ${key}`, input = made("input", "", {...NUMBER, id, "data-key": id});
     const put = (text, mark) => edit(spoilt(fields.get(key), text), mark);
-    input.addEventListener("input", () => {
-        const isWhole = WHOLE.test(input.value.trim());
-        input.setAttribute("aria-invalid", `${!isWhole}`);
-        if (isWhole) put(input.value.trim(), id);
-    });
-    input.addEventListener("blur", () => shownNumber(input, fields.get(key)?.node.value.text ?? input.value));
+    const read = (text) => wholeIn(text, MOST), shown = () => fields.get(key)?.node.value.text ?? "";
+    const reading = {read, why: (text) => whyNotWhole(text, MOST), shown};
+    input.addEventListener("input", () => typedIn(input, {...reading, take: (whole) => put(whole, id)}));
+    leaving(input, reading);
     input.addEventListener("keydown", (event) => {
-        const step = {ArrowUp: 1n, ArrowDown: -1n}[event.key];
-        if (step === undefined || !WHOLE.test(input.value.trim())) return;
+        const step = {ArrowUp: 1n, ArrowDown: -1n}[event.key], whole = read(input.value);
+        if (step === undefined || whole === null) return;
         event.preventDefault();
-        put(String(BigInt(input.value.trim()) + step));
+        put(String(BigInt(whole) + step));
     });
     return [made("label", says, {for: id}), input, ...(out ? [outButton(key)] : [])];
 }

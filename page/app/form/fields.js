@@ -7,8 +7,10 @@ import {
     stretched, textAt, toggled, tradeAdded, tradesRemoved,
 } from "../document/building.js";
 import {memberOf, put, replaced} from "../document/edits.js";
+import {wholeIn, whyNotWhole} from "../shell/whole.js";
 
-const WHOLE = /^(0|-?[1-9]\d{0,9})$/, COUNT = /^(0|-?[1-9]\d?)$/;
+/** The most digits of a number of a firm. */
+const MOST_DIGITS = 10;
 
 /** The kinds of firms, each with the key of what it is for. */
 const KINDS = [["table", "kind.table"], ["laminar", "kind.laminar"], ["middleman", "kind.middleman"],
@@ -20,7 +22,7 @@ const MOST_ROWS = 40, MOST_TRADES = 160;
 /**
  * The form of a document, as groups `{key, title, hint, lines}`; a line is `{key, says, controls}`. A control has a `key`, a
  * `kind`, what it `says`, its whole `name` for those who listen, its `value`, and `put`, which makes edits of what is put in.
- * It may have `isRight`, which says what may be put in, and `then`, which is another view of the page after the change; one
+ * It may have `read`, which answers what is put in, or null, with `why` it isn't right, and `then`, which is another view of the page after the change; one
  * with `look` in the place of `put` is such a view alone. `built` is the place of the firm that is shown, and `ends` are those
  * of a trade that is to be added.
  */
@@ -41,7 +43,7 @@ function box(key, says, name, value, change) {
 }
 
 function number(key, says, name, value, change) {
-    return {key, kind: "number", says, name, value, isRight: (text) => WHOLE.test(text), put: change};
+    return {key, kind: "number", says, name, value, read: (text) => wholeIn(text, MOST_DIGITS), why: (text) => whyNotWhole(text, MOST_DIGITS), put: change};
 }
 
 /** A choice, which makes a change, or another view of the page. */
@@ -52,8 +54,15 @@ function choice(key, says, name, value, options, does) {
 /** A name that can be changed to one that no other has. `keys` are of what it says, and of its whole name. */
 function nameOf(key, keys, network, list, node, names) {
     const value = textAt(node, "name"), isFree = (text) => text === value || !names.includes(text);
-    const isRight = (text) => NAME.test(text) && isFree(text), change = (text) => renamed(network, list, node, text);
-    return {key, kind: "name", says: say(keys[0]), name: say(keys[1], {name: value}), value, isRight, put: change};
+    const read = (text) => NAME.test(text) && isFree(text) ? text : null, change = (text) => renamed(network, list, node, text);
+    return {key, kind: "name", says: say(keys[0]), name: say(keys[1], {name: value}), value, read, why: (text) => whyNoName(text, isFree(text)), put: change};
+}
+
+/** Why a text can't be a name. */
+function whyNoName(text, isFree) {
+    if (text === "") return say("naming.wanted");
+    if (!isFree) return say("naming.taken", {name: text});
+    return text.length > 32 ? say("naming.too_long") : say("naming.signs", {signs: [...new Set(text.match(/[^A-Za-z0-9_.-]/gu))].map((sign) => sign === " " ? say("naming.blank") : sign).join(" ")});
 }
 
 function firmsGroup(network, names, place) {
@@ -182,15 +191,15 @@ function setGroup(network, firm, own, set, k) {
 /** The least and the greatest net count of a set; 0 stays between them. */
 function setEnds(network, set, k, from, to) {
     const {farthest} = limitsOf(network);
-    const end = (name, [says, whole], now, isIn, change) => {
-        const isRight = (text) => COUNT.test(text) && Math.abs(Number(text)) <= farthest && isIn(Number(text));
-        const field = number(`set ${k} ${name}`, say(says), say(whole, {set: k + 1}), `${now}`,
-            (text) => change(Number(text)));
-        return {...field, isRight};
+    const end = (name, [says, whole], now, [least, most], change) => {
+        const field = number(`set ${k} ${name}`, say(says), say(whole, {set: k + 1}), `${now}`, (text) => change(Number(text)));
+        const isIn = (count) => least <= count && count <= most, inIt = (text) => text !== null && isIn(Number(text)) ? text : null;
+        return {...field, read: (text) => inIt(field.read(text)),
+            why: (text) => field.read(text) === null ? field.why(text) : say("number.between", {least, most})};
     };
-    return [end("least", ["form.least", "form.least_of"], from, (count) => count <= 0 && count <= to,
+    return [end("least", ["form.least", "form.least_of"], from, [-farthest, Math.min(0, to)],
         (count) => stretched(network, set, count, to)),
-        end("greatest", ["form.greatest", "form.greatest_of"], to, (count) => count >= 0 && count >= from,
+        end("greatest", ["form.greatest", "form.greatest_of"], to, [Math.max(0, from), farthest],
             (count) => stretched(network, set, from, count))];
 }
 

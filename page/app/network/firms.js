@@ -4,7 +4,8 @@ import {isOld, networkOf} from "../document/state.js";
 import {keepingFocus, made, part} from "../shell/page.js";
 import {moodOf} from "./stage.js";
 
-const HEADS = ["head.firm", "head.has", "head.worth", "head.utility", "head.rather", "head.gain"];
+/** The heads of the table. */
+export const HEADS = ["head.firm", "head.has", "head.worth", "head.utility", "head.rather", "head.gain"];
 const SIGNS = {content: "\u2713", objects: "\u2717", impossible: "\u2717", unknown: ""};
 const MOODS = {content: "mood.content", objects: "mood.objects", impossible: "mood.impossible"};
 

@@ -1,4 +1,5 @@
-// Pointer and keys on the network: a click turns a trade on or off, a drag gives it a price, and elsewhere moves the picture.
+// Pointer and keys on the network: a click turns a trade on or off, a drag gives it a price, and elsewhere moves the picture. A finger
+// that is drawn over it scrolls the page, or moves the picture, and changes no price; the buttons of the chosen trade do.
 import {priceOf, setPrice, turn} from "../document/terms.js";
 import {part} from "../shell/page.js";
 import {suppose} from "../whatif/suppose.js";
@@ -16,7 +17,8 @@ export function handle(store, type) {
     stage.addEventListener("pointerdown", (event) => {
         if (event.button !== 0) return;
         const {clientX: x, clientY: y, pointerId: pointer} = event, key = keyAt(event.target);
-        held = {x, y, pointer, key, view: store.value.view, isMoved: false, ...grip(store, key)};
+        const isFinger = event.pointerType === "touch";
+        held = {x, y, pointer, key, view: store.value.view, isMoved: false, ...(isFinger ? {trade: null} : grip(store, key))};
     });
     stage.addEventListener("pointermove", (event) => {
         if (held === null || event.pointerId !== held.pointer) return;
@@ -63,6 +65,7 @@ function tradesOf(key) {
     return lane ? lane.dataset.trades.split(" ") : [];
 }
 
+/** The trade of a lane that has only one, or null. */
 function onlyTrade(key) {
     const trades = key?.startsWith("lane:") ? tradesOf(key) : [];
     return trades.length === 1 ? trades[0] : null;
@@ -72,6 +75,17 @@ function onlyTrade(key) {
 function stepOf(price, isFine) {
     const digits = String(price < 0n ? -price : price).length;
     return isFine ? 1n : 10n ** BigInt(Math.max(0, Math.ceil(digits / 2) - 1));
+}
+
+/** The chosen trade whose price buttons change, or null: one trade of a guess or of what is signed. */
+export function nudged({view, selection}) {
+    return view.mode === "whatif" || selection?.kind !== "lane" ? null : selection.trade ?? onlyTrade(selection.key);
+}
+
+/** Makes the price of the chosen trade greater or less by a step. */
+export function nudge(store, by) {
+    const trade = nudged(store.value), price = trade === null ? 0n : priceOf(store.value, trade);
+    if (trade !== null) setPrice(store, trade, price + by * stepOf(price, false), `nudge of ${trade}`);
 }
 
 function dragPrice(store, {trade, price, mark, key}, steps, isFine) {

@@ -5,6 +5,7 @@ import {outcomeOf} from "../document/contracts.js";
 import {isOld, networkOf} from "../document/state.js";
 import {setPrice, termsOf, turn} from "../document/terms.js";
 import {made, part} from "../shell/page.js";
+import {isRefused, leaving, refuse, typedIn, wholeIn, whyNotWhole} from "../shell/whole.js";
 import {boundsAt, isWithin, scaleOf} from "./bounds.js";
 import {laneKey} from "./stage.js";
 
@@ -13,8 +14,6 @@ const HEADS = [["head.trade", "name"], ["head.from", "seller"], ["head.to", "buy
 
 /** How high a row is, in pixels, and beyond how many rows only those in sight are there. */
 const HIGH = 37, MOST_ROWS = 200, AROUND = 8;
-
-const WHOLE = /^-?(0|[1-9]\d{0,17})$/;
 
 let store = null, rows = [], present = new Map(), shownOf = null;
 
@@ -135,7 +134,10 @@ function gap(count) {
     return row;
 }
 
-const FIELD = {type: "text", inputmode: "numeric", size: 6, autocomplete: "off"};
+/** How a price is read from its field, and what stands in the document in its place. */
+const PRICE = (field) => ({read: (text) => wholeIn(text), why: (text) => whyNotWhole(text), shown: () => field.dataset.price});
+
+const FIELD = {type: "text", size: 6, autocomplete: "off"};
 
 /** A row with its button and field, which outlives changes. */
 function rowFor(name) {
@@ -144,7 +146,7 @@ function rowFor(name) {
     const price = made("input", "", {...FIELD, "data-key": `price:${name}`});
     on.addEventListener("change", () => turn(store, name, on.checked));
     price.addEventListener("input", () => typed(name, price));
-    price.addEventListener("blur", () => shownPrice(price));
+    leaving(price, PRICE(price));
     price.addEventListener("focus", () => chosen(name));
     price.addEventListener("keydown", (event) => stepped(event, name, price));
     const head = made("th", name, {scope: "row"});
@@ -162,22 +164,15 @@ function chosen(name) {
 }
 
 function typed(name, price) {
-    const isWhole = WHOLE.test(price.value.trim());
-    price.setAttribute("aria-invalid", `${!isWhole}`);
-    if (isWhole) setPrice(store, name, price.value.trim(), `price of ${name}`);
+    typedIn(price, {...PRICE(price), take: (whole) => setPrice(store, name, whole, `price of ${name}`)});
 }
 
 function stepped(event, name, price) {
-    const step = {ArrowUp: 1n, ArrowDown: -1n}[event.key];
-    if (step === undefined || !WHOLE.test(price.value.trim())) return;
+    const step = {ArrowUp: 1n, ArrowDown: -1n}[event.key], whole = wholeIn(price.value);
+    if (step === undefined || whole === null) return;
     event.preventDefault();
-    price.value = String(BigInt(price.value.trim()) + step);
+    price.value = String(BigInt(whole) + step);
     setPrice(store, name, price.value);
-}
-
-function shownPrice(price) {
-    price.value = price.dataset.price;
-    price.setAttribute("aria-invalid", "false");
 }
 
 /** Whether a row is of the lane or bound that is chosen. */
@@ -196,14 +191,20 @@ function update(element, row, place, value, {scale, range, isOldRange}) {
     box.setAttribute("aria-label", say(value.view.mode === "sign" ? "stage.name_signed" : "stage.name_on",
         {name: row.name}));
     field.setAttribute("aria-label", say("stage.price_of", {name: row.name}));
-    const shown = row.price === undefined ? "" : String(row.price);
-    field.dataset.price = shown;
-    const isTyped = field === document.activeElement && field.value.trim() === shown;
-    if (!isTyped && (field !== document.activeElement || WHOLE.test(field.value.trim()))) field.value = shown;
+    showPrice(field, row.price === undefined ? "" : String(row.price));
     bounds.hidden = !range;
     const choose = (side) => store.act("selected", {kind: "bound", trade: row.name, side});
     boundsAt(bounds, {range, price: row.price, scale, isOld: isOldRange, selection: value.selection, choose});
     field.classList.toggle("beyond", range !== undefined && !isOldRange && typeof row.price === "bigint" && !isWithin(range, row.price));
+}
+
+/** Shows a price in its field, but not in the place of what says the same, or was refused and nothing changed since. */
+function showPrice(field, shown) {
+    const isChanged = field.dataset.price !== shown;
+    field.dataset.price = shown;
+    if (isRefused(field) ? !isChanged : field === document.activeElement && wholeIn(field.value) === shown) return;
+    refuse(field, null);
+    field.value = shown;
 }
 
 /** Scrolls the first chosen row into sight, but not away from a field that somebody types in. */

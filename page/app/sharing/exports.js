@@ -1,9 +1,8 @@
 // What goes out of the page as a file: the document, a picture, an answer, and tables.
-import {networkPicture} from "../../draw/network.js";
-import {isOld, networkOf} from "../document/state.js";
-import {cellsOf, linesOf} from "../network/firms.js";
-import {neighbourhood} from "../network/scene.js";
-import {offer} from "../shell/page.js";
+import {say} from "../../words/say.js";
+import {cellsOf, HEADS, linesOf} from "../network/firms.js";
+import {offer, part} from "../shell/page.js";
+import {inPixels, standing} from "./picture.js";
 
 /** The name of a file without its ending. */
 export function stem(name) {
@@ -14,13 +13,18 @@ export function saveDocument({document: {name, bytes}}) {
     offer(`${stem(name)}.json`, bytes, "application/json");
 }
 
-/** The picture of the network with what is answered of the guess, as page/draw draws it. */
-export function savePicture(value) {
-    const {document, guess, judged, answer, compared, view} = value, network = networkOf(document);
-    const signed = judged !== null && !isOld(value, judged) && judged.said !== null ? judged.said : {};
-    const said = view.isOver ? answer.said : view.mode === "sign" ? signed : guess?.said?.answer === "firms" ? guess.said : {};
-    const [before, shown] = view.mode === "whatif" && compared?.states && !isOld(value, compared) ? compared.states : [null, said];
-    offer(`${stem(document.name)}.svg`, networkPicture(network, shown, {before, firm: neighbourhood(value)}), "image/svg+xml");
+/** The network as it is on the screen, by name and title, as SVG. */
+export function savePicture({document}, title) {
+    offer(`${stem(document.name)}.svg`, pictureNow(title).svg, "image/svg+xml");
+}
+
+/** The same as pixels. */
+export async function savePixels({document}, title) {
+    offer(`${stem(document.name)}.png`, await inPixels(pictureNow(title)), "image/png");
+}
+
+function pictureNow(title) {
+    return standing(part("stage").firstElementChild, title);
 }
 
 /** The bytes that the program wrote. */
@@ -36,18 +40,13 @@ export function lineOf({words, document}) {
     return ["market", ...words.map(quoted), ...(isRead ? ["<", quoted(document.name || "document.json")] : [])].join(" ");
 }
 
-export function saveFirms({guess, document}) {
-    const lines = [...linesOf(guess).values()].map((line) => [line.firm, ...cellsOf(line)]);
-    offer(`${stem(document.name)}-firms.csv`, rows([["firm", "has", "worth", "utility", "would rather", "gain"], ...lines]), "text/csv");
+/** The table of firms, with its heads. */
+export function firmsTable({guess}) {
+    return [HEADS.map((head) => say(head)), ...[...linesOf(guess).values()].map((line) => [line.firm, ...cellsOf(line)])];
 }
 
-export function saveRanges({ranges, document}) {
-    const lines = ranges.said.ranges.map(({trade, low, high}) => [trade, ranges.said.on.includes(trade) ? 1 : 0, low ?? "", high ?? ""]);
-    offer(`${stem(document.name)}-ranges.csv`, rows([["trade", "on", "low", "high"], ...lines]), "text/csv");
-}
-
-/** Lines of cells as CSV. */
-export function rows(lines) {
-    const quoted = (cell) => (/[",\n]/.test(cell) ? `"${String(cell).replaceAll('"', '""')}"` : cell);
-    return lines.map((line) => `${line.map(quoted).join(",")}\n`).join("");
+/** The ranges of prices; 1 stands beside a trade that takes place. */
+export function rangesTable({ranges: {said}}) {
+    const lines = said.ranges.map(({trade, low, high}) => [trade, said.on.includes(trade) ? 1 : 0, low ?? "", high ?? ""]);
+    return [["head.trade", "head.on", "head.low", "head.high"].map((head) => say(head)), ...lines];
 }

@@ -11,8 +11,9 @@ import {sortedOut} from "../exercise/results.js";
 import {objectors} from "../network/firms.js";
 import {zoomIn, zoomOut} from "../network/scene.js";
 import {COMMANDS} from "../program/commands.js";
-import {saveAnswer, saveDocument, saveFirms, savePicture, saveRanges} from "../sharing/exports.js";
+import {firmsTable, rangesTable, saveAnswer, saveDocument, savePicture, savePixels, stem} from "../sharing/exports.js";
 import {bindLinks} from "../sharing/links.js";
+import {copyTable, saveTable} from "../sharing/tables.js";
 import {bindReasons, claim} from "../told/reasons.js";
 import {forget, forgetAll, keep, kept} from "./keep.js";
 import {on, part} from "./page.js";
@@ -107,7 +108,7 @@ function bindScene(store) {
     on("zoom-out", () => store.act("looked", zoomOut(store.value.view)));
     on("zoom-fit", () => store.act("looked", {window: null}));
     on("wide", () => store.act("looked", {isWide: part("wide").getAttribute("aria-pressed") !== "true"}));
-    on("picture-save", () => savePicture(store.value));
+    for (const [id, save] of [["picture-save", savePicture], ["picture-pixels", savePixels]]) on(id, () => save(store.value, part("verdict").textContent));
     on("objects", () => stepObjectors(store));
     part("firms").addEventListener("click", ({target}) => {
         const name = target.closest("[data-firm]")?.dataset.firm;
@@ -141,8 +142,13 @@ function bindGuess(store, {ask}) {
     });
     on("over-claim", () => claim(store, store.value.answer));
     on("over-leave", () => store.act("looked", {isOver: false}));
-    on("firms-csv", () => saveFirms(store.value));
-    on("ranges-csv", () => saveRanges(store.value));
+    for (const [id, tableOf] of [["firms", firmsTable], ["ranges", rangesTable]]) bindTable(id, () => tableOf(store.value), () => store.value.document.name);
+}
+
+/** The buttons that save a table and put it on the clipboard. */
+export function bindTable(id, tableOf, nameOf) {
+    on(`${id}-csv`, () => saveTable(`${stem(nameOf())}-${id}`, tableOf()));
+    on(`${id}-copy`, () => copyTable(tableOf()));
 }
 
 /** Takes all lowest or all highest prices as the guess. */

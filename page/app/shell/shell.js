@@ -116,5 +116,5 @@ function showRanges(value) {
         part(id).hidden = said === null;
         able(id, said !== null && said.ranges.every((range) => range[side] !== null));
     }
-    part("ranges-csv").hidden = said === null;
+    part("ranges-there").hidden = said === null;
 }

@@ -1,5 +1,16 @@
 // The form for firms and trades.
 export const FORM = {
+    number: {
+        stays: "Bis dahin gilt {now}.",
+        wanted: "Hier fehlt eine ganze Zahl.", none: "{text} ist keine Zahl.",
+        not_whole: "{text} ist nicht ganz. Alle Zahlen sind hier ganz: zähle in einer kleineren Einheit, etwa Cent.",
+        fraction: "{text} ist ein Bruch. Alle Zahlen sind hier ganz: nimm jede mit derselben Zahl mal.",
+        too_long: "{text} ist zu lang: eine Zahl hat höchstens {most} Ziffern.", between: "Gefragt ist eine ganze Zahl von {least} bis {most}.",
+    },
+    naming: {
+        wanted: "Hier fehlt ein Name.", taken: "{name} gibt es schon.", too_long: "Ein Name hat höchstens 32 Zeichen.", blank: "ein Leerzeichen",
+        signs: "Ein Name hat nur Buchstaben von a bis z, Ziffern und _ . - und nicht: {signs}",
+    },
     build: {
         too_long: "Das Dokument ist zu lang, um hier betrachtet zu werden.",
         no_object: "Ein Formular kann dieses Dokument nicht ändern: Sein Fehler steht unter „Dokument“. „Neu“ "

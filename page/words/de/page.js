@@ -1,6 +1,7 @@
 // What stands in the page: its buttons, heads and labels, and what is said of commands, links, exercises and results.
 export const PAGE = {
     page: {
+        save_pixels: "als PNG", copy: "Kopieren", ranges_copy: "Spannen kopieren",
         address: "Adresse der Seite", all_firms: "Alle Firmen", answer: "Antworten", back: "Zurück",
         begun_forget: "Neu beginnen", begun_open: "Damit weitermachen",
         buyers_best: "Bestes für Käufer", by_firm: "Die Geschäfte einer Firma zeigen",
@@ -63,6 +64,7 @@ export const PAGE = {
         kinds: "Firmen aller Arten", claims: "Behauptungen und Fehler",
     },
     head: {
+        low: "Kleinster", high: "Größter",
         firm: "Firma", has: "Hat", worth: "Wert", utility: "Nutzen", rather: "Hätte lieber", gain: "Gewinn",
         name: "Name", exercise: "Aufgabe", reached: "Erreicht", tries: "Versuche", given: "Firmen und Geschäfte",
         trade: "Geschäft", from: "Von", to: "An", on: "Aktiv", signed: "Unterschrieben", price: "Preis",

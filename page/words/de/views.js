@@ -27,6 +27,7 @@ export const VIEWS = {
         signed_utility: "{firm} {does}: Der Nutzen ist {utility}.",
     },
     stage: {
+        less: "Preis von {name} senken", more: "Preis von {name} erhöhen",
         firm: "Firma {name}", firm_says: "Firma {name}: {says}",
         firm_content: "Firma {name}, zufrieden mit einem Nutzen von {utility}",
         firm_impossible: "Firma {name} widerspricht: Was sie hat, ist für sie unmöglich",

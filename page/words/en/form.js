@@ -1,5 +1,16 @@
 // The form for firms and trades.
 export const FORM = {
+    number: {
+        stays: "{now} stands there until then.",
+        wanted: "A whole number is wanted.", none: "{text} is no number.",
+        not_whole: "{text} isn't whole. All numbers are whole here: count in a smaller unit, as cents.",
+        fraction: "{text} is a fraction. All numbers are whole here: multiply each by the same number.",
+        too_long: "{text} is too long: a number has at most {most} digits.", between: "A whole number from {least} to {most} is wanted.",
+    },
+    naming: {
+        wanted: "A name is wanted.", taken: "{name} is there already.", too_long: "A name has at most 32 signs.", blank: "a blank",
+        signs: "A name has letters from a to z, digits, and _ . - alone, and not: {signs}",
+    },
     build: {
         too_long: "The document is too long to be looked at here.",
         no_object: "A form can't change this document: its fault stands under Document. New begins another one.",

@@ -1,6 +1,7 @@
 // What stands in the page: its buttons, heads and labels, and what is said of commands, links, exercises and results.
 export const PAGE = {
     page: {
+        save_pixels: "as PNG", copy: "Copy", ranges_copy: "Copy the ranges",
         address: "Address of the page", all_firms: "All firms", answer: "Answer", back: "Back",
         begun_forget: "Begin anew", begun_open: "Go on with it",
         buyers_best: "Buyers' best", by_firm: "Show the trades of one firm", bytes: "{count} bytes",
@@ -54,6 +55,7 @@ export const PAGE = {
         kinds: "Firms of all kinds", claims: "Claims and faults",
     },
     head: {
+        low: "Lowest", high: "Highest",
         firm: "Firm", has: "Has", worth: "Worth", utility: "Utility", rather: "Would rather", gain: "Gain",
         name: "Name", exercise: "Exercise", reached: "Reached", tries: "Tries", given: "Firms and trades",
         trade: "Trade", from: "From", to: "To", on: "On", signed: "Signed", price: "Price",

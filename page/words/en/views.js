@@ -22,6 +22,7 @@ export const VIEWS = {
         signed_utility: "{firm} {does}: its utility is {utility}.",
     },
     stage: {
+        less: "Lower the price of {name}", more: "Raise the price of {name}",
         firm: "Firm {name}", firm_says: "Firm {name}: {says}",
         firm_content: "Firm {name}, content with a utility of {utility}",
         firm_impossible: "Firm {name} objects: what it has is impossible for it",

@@ -21,7 +21,7 @@ function entered(text, ...entries) {
     for (const [key, content] of entries) {
         const control = controlsOf(text, view).get(key);
         assert.ok(control, `${key} is in the form of ${text}`);
-        if (control.isRight) assert.ok(control.isRight(content), `${key} takes ${content}`);
+        if (control.read) assert.equal(control.read(content), content, `${key} takes ${content}`);
         if (control.look) Object.assign(view, control.look(content));
         else text = applied(text, control.put(content));
         Object.assign(view, control.then ?? {});
@@ -62,7 +62,7 @@ test("each entry in the form of an example leaves a document, and what it is abo
             for (const [key, control] of controlsOf(text, {built, ends: {}})) {
                 if (control.look) continue;
                 const content = control.kind === "box" ? !control.value : control.kind === "choice" ? control.options.at(-1).value : put[control.kind];
-                if (control.isRight && !control.isRight(content)) continue;
+                if (control.read && control.read(content) === null) continue;
                 const next = applied(text, control.put(content)), same = control.kind === "number" || control.kind === "choice";
                 assert.ok(same || written(plain(parse(next))) !== written(plain(parse(text))), key);
                 const now = controlsOf(next, {built, ends: {}}).get(key);
