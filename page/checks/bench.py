@@ -152,7 +152,7 @@ def label(trade_ends: str) -> str:
 def tries(page: Bench, program: str | None):
     """Each as a name, and whether it is so."""
     for part in (tries_to_guess, tries_by_finger, tries_of_refusals, tries_of_undo, tries_to_solve, tries_of_ranges, tries_of_what_goes, tries_of_complements, tries_of_reasons,
-                 tries_of_first_steps, tries_to_sign, tries_of_claims, tries_of_the_text, tries_of_files, tries_of_size, tries_of_ill_will):
+                 tries_of_first_steps, tries_to_sign, tries_of_claims, tries_of_the_text, tries_to_open, tries_of_versions, tries_to_print, tries_of_files, tries_of_size, tries_of_ill_will):
         yield from part(page, program)
 
 
@@ -533,7 +533,7 @@ def tries_to_sign(page: Bench, program: str | None):
 
 # Chooses of a list what has a value.
 CHOSEN = """
-const select = document.getElementById(arguments[0]);
+const select = document.getElementById(arguments[0]) ?? document.querySelector(`[data-key="${arguments[0]}"]`);
 select.value = arguments[1];
 select.dispatchEvent(new Event("change", {bubbles: true}));"""
 
@@ -655,6 +655,72 @@ def tries_of_the_text(page: Bench, program: str | None):
     yield "and a click begins one", page.guess() != "" and json.loads(page.text())["arrangement"] == {"on": ["a"], "prices": [["a", 0]]}
 
 
+# Leaves a document as another tab does that was closed.
+ELSEWHERE = """
+const key = "market: the document", all = JSON.parse(localStorage.getItem(key)) ?? [];
+localStorage.setItem(key, JSON.stringify([...all, {name: arguments[0], text: arguments[1], tab: "another"}]));"""
+
+
+def tries_of_tabs(page: Bench, address: str):
+    page.open("mine.json", look.example("used-cars.json"))
+    page.click(label("O1 B1"))
+    mine = page.text()
+    page.browser.run("return new Promise((done) => setTimeout(done, 500))")
+    page.browser.run(ELSEWHERE, "other.json", example("houses.json"))
+    page.again(address)
+    page.guess()
+    yield "after a reload the work of this tab and of another one is offered", page.value("[...document.querySelectorAll('#kept-list button')].map(({textContent}) => textContent)") == ["mine.json", "other.json"]
+    page.click("#kept-list button + button")
+    yield "that of the other one is opened", page.guess() != "" and page.text() == example("houses.json")
+    page.again(address)
+    page.guess()
+    page.click("#kept-open")
+    yield "and that of this one", page.guess() != "" and page.text() == mine
+    page.again(address)
+    page.guess()
+    page.click("#kept-forget")
+    page.again(address)
+    yield "and both are forgotten", page.value("document.getElementById('kept').hidden")
+
+
+def tries_of_versions(page: Bench, program: str | None):
+    """What the form does where a change wants more than it may do at once."""
+    trades = [{"name": f"t{k}", "seller": f"S{k % 8}", "buyer": f"B{k // 8}"} for k in range(64)]
+    firms = [{"name": f"{side}{k}", "kind": "laminar"} for side in "SB" for k in range(8)]
+    page.open("full.json", json.dumps({"version": 1, "firms": firms, "trades": trades}).encode())
+    page.click("#tab-build")
+    before = page.text()
+    page.click('[data-key="trade add"]')
+    yield "a 65th trade makes a document one of version 2, which is said", json.loads(page.text())["version"] == 2 and "version 2 now" in page.says("notice") and "fault" not in page.ask("solve")["sentences"][0]
+    page.press("Control+z")
+    yield "and both are taken back as one", page.text() == before
+    page.open("car-dealer.json", look.example("car-dealer.json"))
+    page.click("#tab-build")
+    before = page.text()
+    kind = json.loads(before)["firms"][0]["kind"]
+    page.browser.run(CHOSEN, "firm kind", "table" if kind != "table" else "laminar")
+    yield "another kind asks before numbers go", page.text() == before and "keeps none of its numbers" in page.says("build-fields")
+    page.click('[data-key="kind keep"]')
+    yield "they may stay", page.text() == before and "keeps none" not in page.says("build-fields")
+    page.browser.run(CHOSEN, "firm kind", "table" if kind != "table" else "laminar")
+    page.click('[data-key="kind change"]')
+    yield "or go", json.loads(page.text())["firms"][0]["kind"] != kind and "keeps none" not in page.says("build-fields")
+    page.click("#tab-guess")
+
+
+def tries_to_open(page: Bench, program: str | None):
+    data = look.example("used-cars.json")
+    for name, given in (("a byte order mark", b"\xef\xbb\xbf" + data), ("UTF-16", data.decode().encode("utf-16"))):
+        page.open("marked.json", given)
+        yield f"a file with {name} is told as that, and opened", name in page.says("notice") and page.text() == data.decode() and page.guess().startswith("\u2713")
+    page.open("table.csv", b"name;seller;buyer\na;S;B\n")
+    yield "a table is told as one", "is a table" in page.says("notice")
+    page.open("plain.json", data)
+    yield "and a document as nothing else", page.value("document.getElementById('notice').hidden")
+    page.open("broken.json", data[:-20])
+    yield "a broken one has its fault told", "fault 1" in page.guess() and page.value("document.getElementById('notice').hidden")
+
+
 # Keeps what is offered to be saved, in place of saving it.
 KEEP = """
 window.offered = [];
@@ -730,6 +796,41 @@ def tries_of_files(page: Bench, program: str | None):
     yield "the command for a terminal stands there", line == "market solve --csv < used-cars-dear-car.json"
 
 
+# What of the page is there when it is printed: whatever has a text of its own, by the id of what it stands in.
+PRINTED = """
+const rules = [...document.styleSheets].flatMap((sheet) => [...sheet.cssRules]).filter(({conditionText}) => conditionText === "print");
+const style = new CSSStyleSheet();
+style.replaceSync(rules.flatMap(({cssRules}) => [...cssRules]).map(({cssText}) => cssText).join(" "));
+document.adoptedStyleSheets = [style];
+const texts = document.createTreeWalker(document.body, NodeFilter.SHOW_TEXT), seen = new Set();
+while (texts.nextNode()) {
+    const {parentElement: element, data} = texts.currentNode;
+    if (data.trim() !== "" && !["SCRIPT", "NOSCRIPT"].includes(element.tagName) && element.getClientRects().length > 0 && !element.closest(".unseen")) seen.add(element.closest("[id]")?.id ?? element.tagName);
+}
+document.adoptedStyleSheets = [];
+return [...seen];"""
+
+
+def sheets_in(pdf: bytes) -> int:
+    """How many pages a PDF has, some of whose objects may be packed."""
+    packed = [zlib.decompressobj().decompress(pdf[at.end():]) for at in re.finditer(rb"/ObjStm.*?stream\r?\n", pdf, re.DOTALL)]
+    return sum(len(re.findall(rb"/Type */Page\b", text)) for text in [pdf, *packed])
+
+
+def tries_to_print(page: Bench, program: str | None):
+    for name in ("used-cars", "houses", "lesson/6-signed-too-low"):
+        page.open("printed.json", look.example(f"{name}.json"))
+        page.browser.run("document.querySelector('#tab-guess').click()")
+        page.guess()
+        sheets = sheets_in(page.browser.printed())
+        yield f"{name} is printed on a sheet or two ({sheets})", 1 <= sheets <= 2
+    page.open("printed.json", look.example("used-cars-dear-car.json"))
+    page.click(label("D B1"))
+    page.guess()
+    there = set(page.browser.run(PRINTED))
+    yield f"with verdict, picture and tables, and nothing that is pressed {sorted(there)}", {"verdict", "stage", "trades", "firms"} <= there <= {"verdict", "told", "stage", "legend", "trades", "firms", "panel-guess", "firms-part", "title", "task"}
+
+
 def many_trades() -> bytes:
     """1,024 trades, as many as a document may have."""
     ends = [(f"S{k // 32}", f"B{k % 32}") for k in range(1024)]
@@ -757,6 +858,7 @@ return new Promise((done) => {
 def tries_of_size(page: Bench, program: str | None):
     page.open("many.json", many_trades())
     rows = page.value("document.querySelectorAll('#trades tbody tr').length")
+    yield "the first one stands below the heads", page.value("document.querySelector('#trades tbody [data-trade]').offsetTop - document.querySelector('#trades thead').offsetHeight") < 3
     yield "of 1,024 trades the rows in sight are there", 10 < rows < 80 and page.value("document.getElementById('trades').getAttribute('aria-rowcount')") == "1025"
     longest = page.browser.run(SCROLL)
     print(f"{page.browser.name}: 1,024 trades scrolled, at most {longest:.0f} ms between two pictures")

@@ -1,4 +1,5 @@
 """Chromium without a window, and WebKit where its driver and a display are there, by selenium."""
+import base64
 import json
 import os
 import shutil
@@ -57,6 +58,10 @@ class Chromium:
     def picture(self, path: str, width: int, height: int) -> None:
         self.size(width, height)
         self.driver.save_screenshot(path)
+
+    def printed(self) -> bytes:
+        """The page as it is printed, as PDF."""
+        return base64.b64decode(self.driver.execute_cdp_cmd("Page.printToPDF", {"paperWidth": 8.27, "paperHeight": 11.69})["data"])
 
     def quit(self) -> None:
         self.driver.quit()

@@ -93,6 +93,10 @@ class Firefox:
         self.size(width, height)
         Path(path).write_bytes(base64.b64decode(self.send("WebDriver:TakeScreenshot", {"full": False, "hash": False})["value"]))
 
+    def printed(self) -> bytes:
+        """The page as it is printed, as PDF."""
+        return base64.b64decode(self.send("WebDriver:Print", {"page": {"width": 21, "height": 29.7}})["value"])
+
     def quit(self) -> None:
         self.process.terminate()
         self.process.wait(timeout=30)

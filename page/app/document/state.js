@@ -3,6 +3,7 @@ import {NotJson, readable, textOf, written} from "../../read/json.js";
 import {Network} from "../../read/network.js";
 import {exerciseIn, GOALS, isAsGiven} from "../exercise/exercise.js";
 import {applied} from "./edits.js";
+import {raised} from "./versions.js";
 
 /** Up to how many bytes a document is shown as a text that can be changed. */
 const MOST_SHOWN = 1 << 18;
@@ -14,12 +15,12 @@ const MOST_UNDONE = 400;
 
 /** How a document is looked at that was just opened. */
 const AT_FIRST = {isOver: false, hasRanges: false, hasReason: false, window: null, isWide: null, filter: "", firm: null,
-    sort: {by: null, isDown: false}, built: 0, ends: {}};
+    sort: {by: null, isDown: false}, built: 0, ends: {}, asked: null};
 
 /**
  * The value. `document` is what is looked at, with the `exercise` as which it was opened and how often it was changed since, its `tries`;
  * `past` and `future` are of it, and `mark`, which says what made the last change: changes
- * with one mark are taken back together. An exercise has a past and a future of its own, and `outside` is what was looked at before it. `results` are those that a teacher opened. `selection` is null or `{kind, ..}`: lane, firm or bound. `guess`, `ranges`, `judged` and
+ * with one mark are taken back together; `risen` is the version that the last change gave the document, if it gave it one. An exercise has a past and a future of its own, and `outside` is what was looked at before it. `results` are those that a teacher opened. `selection` is null or `{kind, ..}`: lane, firm or bound. `guess`, `ranges`, `judged` and
  * `decided` are what `firms`, `range`, `judge` and `replay` answered, `reason` what `support` or `test` did, and `answer` is that of the
  * command in `words`, each with the `document` that it was asked of; where that isn't the present one it is old. `run` is how far the
  * command is, `view` how all this is looked at: `mode` is "guess", "sign" or "whatif", which was come to `from`
@@ -28,7 +29,7 @@ const AT_FIRST = {isOver: false, hasRanges: false, hasReason: false, window: nul
  */
 export const START = {
     document: {name: "", bytes: new Uint8Array(0), text: "", isWhole: true, exercise: null, tries: 0}, past: [], future: [], outside: null,
-    mark: null, selection: null,
+    mark: null, risen: null, selection: null,
     guess: null, ranges: null, path: null, judged: null, decided: null, reason: null, results: [], words: ["solve"], run: {state: "none"}, answer: null,
     supposed: {before: [], after: []}, compared: null, contributed: null,
     view: {panel: "guess", mode: "guess", from: "guess", step: 0, ...AT_FIRST},
@@ -70,7 +71,7 @@ export const ACTIONS = {
     /** The text of the document was edited. */
     typed: (value, text, mark = null) => text === value.document.text ? value : changed(value, withText(value.document, text, isMerged(value, mark)), mark),
     /** Some places of the text were changed, by the picture or a form. */
-    edited: (value, edits, mark = null) => ACTIONS.typed(value, applied(value.document.text, edits), mark),
+    edited: (value, edits, mark = null) => withRoom(value, ACTIONS.typed(value, applied(value.document.text, edits), mark)),
     undone: (value) => value.past.length === 0 ? value : moved(value, value.past, value.future, (past, future) => ({past, future})),
     redone: (value) => value.future.length === 0 ? value : moved(value, value.future, value.past, (future, past) => ({past, future})),
     /** A lane, a firm or a bound was chosen, or nothing. */
@@ -119,6 +120,13 @@ export const ACTIONS = {
     forgot: (value) => ({...ACTIONS.went(value, value.view.mode), results: []}),
 };
 
+/** A change of some places, with a later version of the format where it needs one: `risen` is that version then. */
+function withRoom(before, value) {
+    const {document} = value, edits = document === before.document || networkOf(document).root.kind !== "object" ? [] : raised(networkOf(document));
+    if (edits.length === 0) return {...value, risen: null};
+    return {...value, document: withText(document, applied(document.text, edits), true), risen: edits[0].text};
+}
+
 /** A value with its document as if that was never looked at before. */
 function atFirst(value) {
     return looked({...value, ...NOTHING_SAID, selection: null}, {...panelFor(value.document, value.view), ...AT_FIRST});
@@ -160,14 +168,14 @@ function unbound(selection) {
 function changed(value, document, mark) {
     const {document: before, selection} = value, isKept = !isMerged(value, mark) && before.name + before.text !== "";
     const past = isKept ? [...value.past.slice(1 - MOST_UNDONE), {document: before, selection}] : value.past;
-    return {...value, document, past, future: [], mark, ...LAID_DOWN(value, selection)};
+    return {...value, document, past, future: [], mark, risen: null, ...LAID_DOWN(value, selection)};
 }
 
 /** Goes to the last of some earlier or later documents, and keeps the present one among the others. */
 function moved(value, from, to, named) {
     const {document, selection} = from[from.length - 1];
     const here = {document: value.document, selection: value.selection};
-    return {...value, document: triedAs(document, value.document), mark: null, ...LAID_DOWN(value, selection), ...named(from.slice(0, -1), [...to, here])};
+    return {...value, document: triedAs(document, value.document), mark: null, risen: null, ...LAID_DOWN(value, selection), ...named(from.slice(0, -1), [...to, here])};
 }
 
 function documentOf(name, bytes) {

@@ -19,9 +19,9 @@ export function readyBuild(of) {
 export function showBuild(value) {
     const {document, view} = value;
     if (view.panel !== "build") return;
-    const {built, ends} = view;
-    if (shownOf !== null && shownOf.document === document && shownOf.built === built && shownOf.ends === ends) return;
-    shownOf = {document, built, ends};
+    const {built, ends, asked} = view, isSame = (name) => shownOf[name] === {document, built, ends, asked}[name];
+    if (shownOf !== null && Object.keys(shownOf).every(isSame)) return;
+    shownOf = {document, built, ends, asked};
     const groups = document.isWhole ? formOf(networkOf(document), view) : [];
     write("build-says", groups.length > 0 ? "" : say(document.isWhole ? "build.no_object" : "build.too_long"));
     const list = groups.flatMap(({lines}) => lines.flatMap((line) => line.controls));

@@ -26,11 +26,11 @@ const MOST_ROWS = 40, MOST_TRADES = 160;
  * with `look` in the place of `put` is such a view alone. `built` is the place of the firm that is shown, and `ends` are those
  * of a trade that is to be added.
  */
-export function formOf(network, {built, ends}) {
+export function formOf(network, {built, ends, asked}) {
     if (network.root.kind !== "object") return [];
     const firms = objectsIn(network, "firms"), names = firms.map(({name}) => name);
     const place = Math.min(built, firms.length - 1), here = firms[place];
-    const parts = here ? ofFirm(network, here, names) : [];
+    const parts = here ? ofFirm(network, here, names, asked) : [];
     return [firmsGroup(network, names, place), ...parts, tradesGroup(network, names, here, ends)];
 }
 
@@ -75,16 +75,29 @@ function firmsGroup(network, names, place) {
 }
 
 /** The parts of the form that are of one firm. */
-function ofFirm(network, {node, name}, names) {
+function ofFirm(network, {node, name}, names, asked) {
     const kind = textAt(node, "kind"), remove = () => firmRemoved(network, node), own = ownTrades(network, name);
     const head = [
         nameOf("firm name", ["head.name", "form.name_of"], network, "firms", node, names),
         choice("firm kind", say("form.kind"), say("form.kind"), kind, KINDS.map(([each, says]) => [each, say(says)]),
-            {put: (next) => ofKind(network, node, next)}),
+            hasNumbers(node) ? {look: (next) => ({asked: {kind: next, of: network.text}})} : {put: (next) => ofKind(network, node, next)}),
         button("firm out", say("form.remove_it"), say("form.remove_firm", {name}), remove)];
     const hint = own.length === 0 ? say("form.no_trades") : "";
     const parts = own.length === 0 ? [] : PARTS[kind]?.(network, node, own) ?? [];
-    return [{key: "firm", title: say("form.the_firm", {name}), hint, lines: [{key: "head", controls: head}]}, ...parts];
+    const lines = [{key: "head", controls: head}, ...(asked?.of === network.text && asked.kind !== kind ? [askedLine(network, node, asked.kind)] : [])];
+    return [{key: "firm", title: say("form.the_firm", {name}), hint, lines}, ...parts];
+}
+
+/** Whether something is said of a firm that another kind wouldn't keep. */
+function hasNumbers(firm) {
+    return ["rows", "amounts", "sets", "costs", "gains", "pairs"].some((list) => memberOf(firm, list, "list")?.value.length > 0) || firm.value.get("keep")?.kind === "number";
+}
+
+/** Asks before a firm becomes one of another kind. */
+function askedLine(network, firm, kind) {
+    const keep = {...button("kind keep", say("form.kind_keep"), say("form.kind_keep")), look: () => ({asked: null})};
+    return {key: "asked", says: say("form.kind_asked"),
+        controls: [button("kind change", say("form.kind_change"), say("form.kind_change"), () => ofKind(network, firm, kind)), keep]};
 }
 
 /** The trades of a firm, each with whether it is a sale. */

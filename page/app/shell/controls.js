@@ -3,6 +3,7 @@ import {say} from "../../words/say.js";
 import {EMPTY} from "../document/building.js";
 import {goTo, refreshEditor} from "../document/editor.js";
 import {laidOut} from "../document/lines.js";
+import {openedAs} from "../document/opening.js";
 import {faulty, isOld} from "../document/state.js";
 import {arrange} from "../document/terms.js";
 import {bindBegun, sayBegun} from "../exercise/begun.js";
@@ -16,10 +17,10 @@ import {bindLinks} from "../sharing/links.js";
 import {copyTable, saveTable} from "../sharing/tables.js";
 import {bindReasons, claim} from "../told/reasons.js";
 import {forget, forgetAll, keep, kept} from "./keep.js";
-import {on, part} from "./page.js";
+import {made, on, part} from "./page.js";
 
-/** The document of last time, or null. */
-let last = null;
+/** The documents of last time. */
+let last = [];
 
 /** The actions that change the document. */
 const CHANGES = ["opened", "typed", "edited", "undone", "redone", "resumed", "left"];
@@ -43,8 +44,16 @@ export function bind(store, documents, run) {
 /** Opens files: of documents the last one, and all results. */
 async function open(store, list) {
     const {results, files} = await sortedOut(list);
-    if (files.length > 0) store.act("opened", files[files.length - 1].name, files[files.length - 1].bytes);
+    if (files.length > 0) openFile(store, files[files.length - 1]);
     if (results.length > 0) store.act("resulted", results);
+}
+
+/** Opens a file, and says what it is where it isn't a document as it stands. */
+function openFile(store, {name, bytes}) {
+    const opened = openedAs(bytes);
+    store.act("opened", name, opened.bytes);
+    part("notice").hidden = opened.says === null;
+    part("notice").textContent = opened.says === null ? "" : say(opened.says, {name});
 }
 
 function bindDocument(store, documents) {
@@ -94,8 +103,9 @@ function bindHistory(store) {
 
 /** What was said of a text, or made of it, goes with the text. */
 function bindNotices(store) {
-    store.watch((_, name) => {
+    store.watch(({risen}, name) => {
         if (!CHANGES.includes(name)) return;
+        if (risen !== null) [part("notice").hidden, part("notice").textContent] = [false, say("page.risen", {version: risen})];
         part("linked").hidden = true;
         for (const id of ["maker-says", "denominator-says"]) part(id).textContent = "";
         part("denominator").setAttribute("aria-invalid", "false");
@@ -200,19 +210,25 @@ function bindCommand(store, {ask, end}) {
     on("answer-claim", () => claim(store, store.value.answer));
 }
 
-/** Asks about the document of last time, and keeps the present one from its first change on. */
+/** Offers the documents of last time, and keeps the present one from its first change on. */
 function bindKept(store) {
     last = kept();
-    part("kept").hidden = last === null;
-    on("kept-open", () => {
+    part("kept").hidden = last.length === 0;
+    part("kept-list").addEventListener("click", ({target}) => {
+        const found = last[target.dataset.kept];
+        if (found === undefined) return;
         part("kept").hidden = true;
-        store.act("opened", last.name, new TextEncoder().encode(last.text));
+        store.act("opened", found.name, new TextEncoder().encode(found.text));
     });
     for (const [id, act] of [["kept-forget", forget], ["forget", forgetAll]]) on(id, () => {
         part("kept").hidden = true;
         act();
     });
-    store.watch(({document: now, past}, name) => CHANGES.includes(name) && past.length > 0 && now.exercise === null && keep(now));
+    store.watch(({document: now}, name) => CHANGES.includes(name) && !["opened", "left"].includes(name) && now.exercise === null && keep(now));
+}
+
+function keptButton({name}, k) {
+    return made("button", name, {type: "button", id: k === 0 ? "kept-open" : null, "data-kept": k, "aria-label": say("page.kept_open", {name})});
 }
 
 /** Says what is chosen from, and what was kept, in the language that is spoken. */
@@ -222,5 +238,5 @@ export function sayControls() {
     });
     for (const group of part("examples").querySelectorAll("optgroup")) group.label = say(group.dataset.group);
     sayBegun();
-    part("kept-says").textContent = last === null ? "" : say("page.kept", {name: last.name});
+    part("kept-list").replaceChildren(...last.map(keptButton));
 }

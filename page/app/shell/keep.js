@@ -1,16 +1,28 @@
-// The document of last time, what was begun of exercises, and the language that was chosen, which the browser keeps where it lets
+// The documents of last time, one for each tab, what was begun of exercises, and the language that was chosen, which the browser keeps where it lets
 // pages do so. Nothing depends on them, and no name of a pupil is among them.
 
 const KEY = "market: the document", EXERCISES = "market: the exercises", LANGUAGE = "market: the language", WAIT = 300;
 
-/** Of how many exercises what was begun is kept. */
-const MOST = 8;
+/** Of how many exercises what was begun is kept, and of how many tabs the document. */
+const MOST = 8, MOST_TABS = 3;
+
+const TAB = "market: the tab";
 
 const waiting = new Map();
 
-/** Keeps a document a little later, so that a drag is kept once. */
+/** Keeps the document of this tab a little later, so that a drag is kept once; those of other tabs stay. */
 export function keep({name, text, isWhole}) {
-    if (isWhole && text !== "") later(KEY, () => ({name, text}));
+    const others = () => kept().filter(({tab}) => tab !== tabNow());
+    if (isWhole && text !== "") later(KEY, () => [{name, text, tab: tabNow()}, ...others()].slice(0, MOST_TABS));
+}
+
+/** The name of this tab, which it keeps when it is loaded again. */
+function tabNow() {
+    const known = tried(() => sessionStorage.getItem(TAB));
+    if (known) return known;
+    const fresh = Math.random().toString(36).slice(2);
+    tried(() => sessionStorage.setItem(TAB, fresh));
+    return tried(() => sessionStorage.getItem(TAB)) ?? "";
 }
 
 function later(key, content) {
@@ -32,10 +44,10 @@ function read(key) {
     return tried(() => JSON.parse(localStorage.getItem(key)));
 }
 
-/** What is kept, as `{name, text}`, or null. */
+/** The documents that are kept, as `{name, text, tab}`, that of this tab first. */
 export function kept() {
-    const found = read(KEY);
-    return isKept(found) ? found : null;
+    const all = [read(KEY)].flat().filter(isKept), isOwn = ({tab}) => tab === tabNow();
+    return [...all.filter(isOwn), ...all.filter((each) => !isOwn(each))];
 }
 
 function isKept(found) {
@@ -58,7 +70,7 @@ export function forgetBegun(isSame) {
     put(EXERCISES, begun().filter((each) => !isSame(each)));
 }
 
-/** Forgets the document. */
+/** Forgets the documents. */
 export function forget() {
     remove(KEY);
 }

@@ -22,6 +22,7 @@ export const FORM = {
         dealer: "dealer: Käufe, denen Verkäufe zugeordnet sind",
     },
     form: {
+        kind_asked: "Eine andere Art behält keine seiner Zahlen.", kind_change: "Art wechseln", kind_keep: "So lassen",
         add_firm: "Firma hinzufügen", the_firm: "Die Firma {name}", name_of: "Name von {name}", kind: "Art",
         remove: "Entfernen", remove_it: "Entfernen",
         remove_firm: "{name} und die Geschäfte dieser Firma entfernen",

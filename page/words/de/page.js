@@ -1,6 +1,7 @@
 // What stands in the page: its buttons, heads and labels, and what is said of commands, links, exercises and results.
 export const PAGE = {
     page: {
+        risen: "Das Dokument ist jetzt eines der Version {version}: eine frühere erlaubt weniger, als darin steht.",
         save_pixels: "als PNG", copy: "Kopieren", ranges_copy: "Spannen kopieren",
         address: "Adresse der Seite", all_firms: "Alle Firmen", answer: "Antworten", back: "Zurück",
         begun_forget: "Neu beginnen", begun_open: "Damit weitermachen",
@@ -21,8 +22,8 @@ export const PAGE = {
         firms: "Firmen", firms_csv: "Firmen als CSV", firms_states: "Firmen vorher und nachher", fit: "Alles",
         forget: "Vergessen, was behalten wurde", from_link: "aus einem Link", goal: "Gesucht",
         goal_equilibrium: "ein Gleichgewicht", goal_lasts: "Verträge, die halten",
-        kept: "Der Browser hat ein Dokument vom letzten Mal behalten: {name}.",
-        kept_forget: "Vergessen", kept_open: "Öffnen", language: "Sprache", lay_out: "Auf Zeilen verteilen",
+        kept: "Vom letzten Mal hat der Browser behalten:",
+        kept_forget: "Vergessen", kept_open: "{name} öffnen", language: "Sprache", lay_out: "Auf Zeilen verteilen",
         leave_exercise: "Aufgabe verlassen", leave_guess: "Zum Vorschlag zurück", link: "Link", loading: "Das Programm wird geladen.",
         made_of: "Gemacht aus den Quellen mit der Prüfsumme {sources}.",
         make: "Zur Aufgabe machen", maker: "Eine Aufgabe machen",
@@ -135,6 +136,11 @@ export const PAGE = {
         lacks: "nein: es fehlt {part}", fault: "nein: Fehler {fault}", other: "nein: {answer}",
         no_exercise: "es gehört zu keiner Aufgabe", no_answer: "das Programm hat nicht geantwortet",
         as_given: "wie gegeben", changed: "geändert", not_compared: "nicht verglichen",
+    },
+    file: {
+        mark: "{name} beginnt mit einer Marke für die Bytefolge, wie manche Programme sie setzen. JSON hat keine; sie wurde hier weggelassen.",
+        utf16: "{name} ist in UTF-16 geschrieben. Ein Dokument ist UTF-8; die Zeichen wurden hier neu geschrieben.",
+        table: "{name} ist eine Tabelle und kein Dokument. tools/lanes macht aus Tabellen von Firmen und Strecken ein Dokument.",
     },
     sign: {
         not_whole: "Mit diesem Nenner ist ein Preis nicht ganz.",

@@ -20,6 +20,7 @@ export const FORM = {
         middleman: "middleman: one good, bought and sold on", dealer: "dealer: purchases matched with sales",
     },
     form: {
+        kind_asked: "Another kind keeps none of its numbers.", kind_change: "Change the kind", kind_keep: "Keep it",
         add_firm: "Add a firm", the_firm: "The firm {name}", name_of: "Name of {name}", kind: "Kind",
         remove: "Remove", remove_it: "Remove it", remove_firm: "Remove {name} and its trades",
         no_trades: "It has no trades yet: add some below.", worths: "Worths", worth: "worth",

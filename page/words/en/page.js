@@ -1,6 +1,7 @@
 // What stands in the page: its buttons, heads and labels, and what is said of commands, links, exercises and results.
 export const PAGE = {
     page: {
+        risen: "The document is one of version {version} now: an earlier version allows less than it has.",
         save_pixels: "as PNG", copy: "Copy", ranges_copy: "Copy the ranges",
         address: "Address of the page", all_firms: "All firms", answer: "Answer", back: "Back",
         begun_forget: "Begin anew", begun_open: "Go on with it",
@@ -20,8 +21,8 @@ export const PAGE = {
         filter_says: "Show only trades with these letters", firms: "Firms", firms_csv: "Firms as CSV",
         firms_states: "Firms before and after", fit: "All", forget: "Forget what is kept", from_link: "from a link",
         goal: "To be found", goal_equilibrium: "an equilibrium", goal_lasts: "contracts that last",
-        kept: "The browser has kept a document from last time: {name}.",
-        kept_forget: "Forget it", kept_open: "Open it", language: "Language", lay_out: "Lay it out",
+        kept: "From last time the browser has kept:",
+        kept_forget: "Forget them", kept_open: "Open {name}", language: "Language", lay_out: "Lay it out",
         leave_exercise: "Leave the exercise", leave_guess: "Back to the guess", link: "Link", loading: "The program is being loaded.",
         made_of: "Made of the sources with the checksum {sources}.",
         make: "Make it an exercise", maker: "Make an exercise", more_sentences: "{count} more sentences",
@@ -118,6 +119,11 @@ export const PAGE = {
         lacks: "no: there is no {part}", fault: "no: fault {fault}", other: "no: {answer}",
         no_exercise: "it isn't of an exercise", no_answer: "the program didn't answer", as_given: "as given",
         changed: "changed", not_compared: "not compared",
+    },
+    file: {
+        mark: "{name} begins with a byte order mark, as some programs put it there. JSON has none, so it was left out here.",
+        utf16: "{name} is written in UTF-16. A document is UTF-8, so its letters were written anew here.",
+        table: "{name} is a table of cells, and no document. tools/lanes makes a document of tables of firms and lanes.",
     },
     sign: {
         not_whole: "With this denominator a price isn't whole.",
