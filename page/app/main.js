@@ -1,7 +1,8 @@
 // The page: a network to look at and guess with, its document, and what the program answers.
+import {speakOf} from "../words/labels.js";
 import {say} from "../words/say.js";
 import {readyEditor, showEditor} from "./document/editor.js";
-import {Store} from "./document/state.js";
+import {networkOf, Store} from "./document/state.js";
 import {showLesson} from "./exercise/lesson.js";
 import {Marking, showResults} from "./exercise/results.js";
 import {readyBuild, showBuild} from "./form/build.js";
@@ -114,6 +115,7 @@ async function start() {
         /** For the console, and for tests: `market.ask(["solve"], bytes)` is a promise of `{status, bytes, ms}`. */
         ask: (words, bytes) => program.turn()(words, bytes),
     });
+    store.watch(({document}) => speakOf(networkOf(document)));
     store.watch(show);
     new Guesses(store, guesser);
     new Marking(store, marker);

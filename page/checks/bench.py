@@ -151,7 +151,7 @@ def label(trade_ends: str) -> str:
 
 def tries(page: Bench, program: str | None):
     """Each as a name, and whether it is so."""
-    for part in (tries_to_guess, tries_by_finger, tries_of_refusals, tries_of_undo, tries_to_solve, tries_of_ranges, tries_of_what_goes, tries_of_complements, tries_of_reasons,
+    for part in (tries_to_guess, tries_by_finger, tries_of_refusals, tries_of_labels, tries_of_undo, tries_to_solve, tries_of_ranges, tries_of_what_goes, tries_of_complements, tries_of_reasons,
                  tries_of_first_steps, tries_to_sign, tries_of_claims, tries_of_the_text, tries_to_open, tries_of_versions, tries_to_print, tries_of_files, tries_of_size, tries_of_ill_will):
         yield from part(page, program)
 
@@ -252,13 +252,49 @@ def tries_of_refusals(page: Bench, program: str | None):
     yield "what was refused goes when the price changes", page.browser.run(REFUSED, "price:o1d") == ["13", "false", ""]
     page.open("used-cars.json", look.example("used-cars.json"))
     page.click("#tab-build")
-    for typed, why in (("O 1", "not: a blank"), ("M\u00fcller", "not: \u00fc"), ("D", "is there already"), ("", "A name is wanted")):
+    for typed, why in (("D", "is there already"), ("", "A name is wanted"), ("x" * 81, "at most 80 signs")):
         value, invalid, said = refused(page, "firm name", typed)
         yield f"{typed or 'nothing'} as a name is refused with the reason", (value, invalid) == (typed, "true") and why in said and page.text() == first
     page.focus("firm name")
     page.press("Escape")
     yield "Escape puts the name back", page.browser.run(REFUSED, "firm name") == ["O1", "false", ""]
+    for typed, name in (("Frau M\u00fcller", "Frau-Mueller"), ("\u00c5sa & \u0141ukasz", "Asa-Lukasz"), ("\u8d75", "f"), ("O1", "O1")):
+        value, invalid, _ = refused(page, "firm name", typed)
+        firm, trade = json.loads(page.text())["firms"][0], json.loads(page.text())["trades"][0]
+        yield f"{typed} as a name is kept as the note of a plain one", (value, invalid, firm["name"], firm["note"], trade["seller"]) == (typed, "false", name, typed, name)
+    page.guess()
     page.click("#tab-guess")
+
+
+LABELLED = json.dumps({"version": 1, "note": {"en": "A bicycle\nWho gets it, and for how much?", "de": "Ein Fahrrad\nWer bekommt es, und f\u00fcr wie viel?"},
+    "firms": [{"name": "S", "note": "Frau M\u00fcller", "kind": "table", "rows": [[["a"], -5]]}, {"name": "B", "note": {"en": "=Ben", "de": "Benno"}, "kind": "table", "rows": [[["a"], 9]]}],
+    "trades": [{"name": "a", "note": {"en": "the bicycle", "de": "das Fahrrad"}, "seller": "S", "buyer": "B"}], "arrangement": {"on": ["a"], "prices": [["a", 4]]}}, ensure_ascii=False)
+
+
+def tries_of_labels(page: Bench, program: str | None):
+    page.open("labelled.json", LABELLED.encode())
+    page.guess()
+    yield "the note's first line is the title, and the rest the task", page.says("title") == "A bicycle" and page.says("task") == "Who gets it, and for how much?"
+    drawn = page.drawn()
+    yield "firms and trades are drawn by their labels", "Frau M\u00fcller" in drawn["firms"]["S"]["shown"] and "the bicycle" in drawn["labels"][0] and "=Ben" in drawn["firms"]["B"]["shown"]
+    yield "and heard by them", drawn["firms"]["S"]["says"].startswith("Firm Frau M\u00fcller objects") and drawn["lanes"]["a"]["says"].startswith("Trade the bicycle, from Frau M\u00fcller to =Ben, at 4")
+    cells = page.value("[...document.querySelector('#trades tbody tr').cells].slice(0, 3).map(({textContent, title}) => [textContent, title])")
+    yield "tables have them, with the names beside", cells == [["the bicycle", "a"], ["Frau M\u00fcller", "S"], ["=Ben", "B"]]
+    page.click("#objects")
+    yield "and sentences do", page.says("told").startswith("Frau M\u00fcller sells the bicycle to =Ben at 4")
+    page.browser.run(KEEP)
+    page.click("#firms-csv")
+    [[_, table]] = page.browser.run(OFFERED)
+    yield "a label in a table begins no formula", "\n'=Ben,the bicycle,9,5,,0\n" in table
+    page.browser.run("const select = document.getElementById('language'); select.value = 'de'; select.dispatchEvent(new Event('change'))")
+    page.guess()
+    drawn = page.drawn()
+    yield "in another language they are others", page.says("title") == "Ein Fahrrad" and "Benno" in drawn["firms"]["B"]["shown"] and "das Fahrrad" in drawn["labels"][0]
+    page.click("#firms-csv")
+    [[_, table]] = page.browser.run(OFFERED)
+    yield "and a table in German has semicolons", table.startswith("\ufeffFirma;Hat;") and "\nBenno;das Fahrrad;9;5;;0\n" in table
+    page.browser.run("const select = document.getElementById('language'); select.value = 'en'; select.dispatchEvent(new Event('change'))")
+    page.open("used-cars.json", look.example("used-cars.json"))
 
 
 def tries_of_undo(page: Bench, program: str | None):

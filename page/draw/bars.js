@@ -1,4 +1,5 @@
 // The ranges of prices as bars, from the lowest to the highest price of each trade.
+import {tradeLabel} from "../words/labels.js";
 import {say} from "../words/say.js";
 import {FIRST, foot, NORMAL, picture, tag, text, widthOf} from "./svg.js";
 
@@ -31,7 +32,7 @@ function barsOf(network, {on, ranges}) {
 }
 
 function titleOf({seller, buyer, trades, on}) {
-    const name = trades.length === 1 ? trades[0] : `${on}/${trades.length}`;
+    const name = trades.length === 1 ? tradeLabel(trades[0]) : `${on}/${trades.length}`;
     return `${name}, ${say("picture.ends", {seller, buyer})}`;
 }
 

@@ -1,6 +1,7 @@
 // Contracts that block an outcome, between the firms that would rather sign them, with what each has and could have.
 import {gains} from "../read/firms.js";
 import {fraction} from "../read/network.js";
+import {tradeLabel} from "../words/labels.js";
 import {say} from "../words/say.js";
 import {layout} from "./layout.js";
 import {arrow, boxWidth, FIRST, foot, INK, label, namedBox, picture, sizeOf, tag} from "./svg.js";
@@ -20,7 +21,7 @@ export async function chainPicture(network, said, ask) {
 }
 
 function arrowOf(network, name, price, state) {
-    const {seller, buyer} = network.trade(name), lines = [name, price];
+    const {seller, buyer} = network.trade(name), lines = [tradeLabel(name), price];
     return {from: seller, to: buyer, name, lines, size: sizeOf(lines), state};
 }
 

@@ -1,4 +1,5 @@
 // The trades of a network as the arrows of a picture: those from one firm to another are one, a lane, where nothing sets them apart.
+import {tradeLabel} from "../words/labels.js";
 import {say} from "../words/say.js";
 
 /**
@@ -25,7 +26,7 @@ export function wordsOf(lane, {on, prices}, before = null) {
     const price = spanOf(shown, prices);
     const old = before ? spanOf(shown, before.prices) : price;
     const all = lane.trades.length, isOne = all === 1;
-    const name = isOne ? lane.trades[0] : lane.on === null ? say("picture.trades", {count: all}) : `${lane.on}/${all}`;
+    const name = isOne ? tradeLabel(lane.trades[0]) : lane.on === null ? say("picture.trades", {count: all}) : `${lane.on}/${all}`;
     if (price === null) return [name];
     const shows = old === null || old === price ? price : `${old} \u2192 ${price}`;
     return isOne ? [name, shows] : [say("picture.at", {name, price: shows})];

@@ -3,6 +3,7 @@ import {itemsOf} from "../read/network.js";
 import {sharesOf} from "../read/plan.js";
 import {comparedWith, shareOf} from "../say/plan.js";
 import {set} from "../say/words.js";
+import {firmLabel, tradeLabel} from "../words/labels.js";
 import {say} from "../words/say.js";
 import {layout} from "./layout.js";
 import {arrow, FIRST, foot, INK, label, NORMAL, picture, sizeOf, SMALL, tag, text, widthOf} from "./svg.js";
@@ -33,7 +34,7 @@ function captionOf(sum, most) {
 /** The arrow of a trade of which something is sold, in a list. */
 function arrowOf(name, seller, buyer, {plan, over}) {
     const weight = plan.reduce((sum, [firm, names, each]) => (firm === buyer && itemsOf(names).includes(name) ? sum + each : sum), 0n);
-    const lines = [name, shareOf(weight, over)];
+    const lines = [tradeLabel(name), shareOf(weight, over)];
     return weight === 0n ? [] : [{from: seller, to: buyer, name, lines, size: sizeOf(lines), isWhole: weight === over}];
 }
 
@@ -50,7 +51,7 @@ function partLine({names, weight, worth}, over) {
 }
 
 function boxOf(name, lines) {
-    const width = Math.max(widthOf(name, NORMAL + 1) + 4, ...lines.map((line) => widthOf(line, SMALL))) + 14;
+    const width = Math.max(widthOf(firmLabel(name), NORMAL + 1) + 4, ...lines.map((line) => widthOf(line, SMALL))) + 14;
     return {id: name, name, lines, width, height: 24 + 13 * lines.length};
 }
 
@@ -58,7 +59,7 @@ function firmBox({name, lines, width, height}, {x, y}) {
     const top = y - height / 2;
     return tag("g", {class: "firm", "data-firm": name},
         tag("rect", {x: x - width / 2, y: top, width, height, rx: 5, fill: "#f8fafc", stroke: "#475569"}),
-        text(x, top + 16, name, {size: NORMAL + 1, weight: "bold"}),
+        text(x, top + 16, firmLabel(name), {size: NORMAL + 1, weight: "bold"}),
         lines.map((line, k) => text(x, top + 30 + 13 * k, line, {size: SMALL})));
 }
 

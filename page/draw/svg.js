@@ -1,4 +1,5 @@
 // Pieces of a picture as text of SVG.
+import {firmLabel, labelOf} from "../words/labels.js";
 
 /** The sizes of letters, in units of the picture, which are pixels at its full size. None is smaller. */
 export const SMALL = 11, NORMAL = 12, LARGE = 14;
@@ -54,13 +55,19 @@ export function namedBox(kind, {name, below, width, height}, {x, y}, style = {})
     const {fill = "#f8fafc", stroke = "#475569", thick = 1, inkBelow = "#475569"} = style;
     return tag("g", {class: kind, [`data-${kind}`]: name},
         tag("rect", {x: x - width / 2, y: y - height / 2, width, height, rx: 5, fill, stroke, "stroke-width": thick}),
-        text(x, below ? y - 2 : y + 4.5, name, {size: NORMAL + 1, weight: "bold"}),
+        labelOfBox(kind, name) === name ? null : tag("title", {}, escaped(name)),
+        text(x, below ? y - 2 : y + 4.5, labelOfBox(kind, name), {size: NORMAL + 1, weight: "bold"}),
         below ? text(x, y + 12, below, {size: SMALL, ink: inkBelow}) : null);
+}
+
+/** What stands in a box: the label of a firm, or of what else it is of. */
+function labelOfBox(kind, name) {
+    return kind === "firm" ? firmLabel(name) : labelOf(name);
 }
 
 /** The width of a box for a name and the line below it. */
 export function boxWidth(name, below) {
-    return Math.max(widthOf(name, NORMAL + 1) + 4, widthOf(below ?? "", SMALL), 30) + 14;
+    return Math.max(widthOf(labelOf(name), NORMAL + 1) + 4, widthOf(below ?? "", SMALL), 30) + 14;
 }
 
 /** A line through points, with a head at its end. */

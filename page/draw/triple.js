@@ -1,5 +1,6 @@
 // Two bundles between which the exchange property fails, trade by trade, with what each is worth.
 import {worths} from "../read/firms.js";
+import {tradeLabel} from "../words/labels.js";
 import {say} from "../words/say.js";
 import {BOTH, FIRST, foot, INK, LARGE, NORMAL, picture, SECOND, tag, text, widthOf} from "./svg.js";
 
@@ -15,9 +16,9 @@ export async function triplePicture(network, said, ask) {
     const {firm, x, y, at} = failingOf(network, said);
     const [ofX, ofY] = await worths(ask, network, firm, [x, y]);
     const names = network.trades.map(({name}) => name).filter((name) => network.isOf(name, firm));
-    const wide = Math.max(60, ...names.map((name) => Math.max(widthOf(name, NORMAL), widthOf(endsOf(network, name, firm), NORMAL)) + 18));
+    const wide = Math.max(60, ...names.map((name) => Math.max(widthOf(tradeLabel(name), NORMAL), widthOf(endsOf(network, name, firm), NORMAL)) + 18));
     const parts = names.map((name, k) => [
-        text(90 + (k + 0.5) * wide, 60, name, {weight: name === at ? "bold" : null, ink: name === at ? FIRST : INK}),
+        text(90 + (k + 0.5) * wide, 60, tradeLabel(name), {weight: name === at ? "bold" : null, ink: name === at ? FIRST : INK}),
         text(90 + (k + 0.5) * wide, 76, endsOf(network, name, firm), {ink: "#475569"}),
         [x, y].map((bundle, line) => cell(bundle.includes(name), 90 + k * wide, 90 + line * 40, wide, inkOf(x.includes(name), y.includes(name))))]);
     const right = 90 + names.length * wide + 16;

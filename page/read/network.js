@@ -18,9 +18,9 @@ export class Network {
             this.problem = error;
         }
         this.data = objectOf(plain(this.root));
-        this.firms = itemsOf(this.data.firms).filter(isObject).map(({name, kind}) => ({name: String(name ?? ""), kind: String(kind ?? "")}));
+        this.firms = itemsOf(this.data.firms).filter(isObject).map(({name, kind, note}) => ({name: String(name ?? ""), kind: String(kind ?? ""), note}));
         this.trades = itemsOf(this.data.trades).filter(isObject)
-            .map(({name, seller, buyer}) => ({name: String(name ?? ""), seller: String(seller ?? ""), buyer: String(buyer ?? "")}));
+            .map(({name, seller, buyer, note}) => ({name: String(name ?? ""), seller: String(seller ?? ""), buyer: String(buyer ?? ""), note}));
         this.arrangement = objectOf(this.data.arrangement);
         this.outcome = objectOf(this.data.outcome);
         this.claim = objectOf(this.data.claim);

@@ -1,18 +1,20 @@
 // How sentences name trades, prices and numbers.
 import {standing} from "../read/standing.js";
+import {labelOf} from "../words/labels.js";
 import {say} from "../words/say.js";
 
 const MOST_SIGNS = 40, MOST_NAMES = 8;
 
 /** Words in a list: "a, b and c". */
 export function listed(words) {
-    if (words.length === 0) return say("list.none");
-    if (words.length === 1) return `${words[0]}`;
-    return say("list.some", {most: words.slice(0, -1).join(", "), last: words[words.length - 1]});
+    const shown = words.map(labelOf);
+    if (shown.length === 0) return say("list.none");
+    if (shown.length === 1) return `${shown[0]}`;
+    return say("list.some", {most: shown.slice(0, -1).join(", "), last: shown[shown.length - 1]});
 }
 
 export function set(names) {
-    return `{${names.join(", ")}}`;
+    return `{${names.map(labelOf).join(", ")}}`;
 }
 
 /** A text of a document as it is named in sentences: between marks, and not at length. */

@@ -3,6 +3,7 @@
 // which it is.
 import {DE} from "./de.js";
 import {EN} from "./en.js";
+import {called, labelsIn} from "./labels.js";
 
 /** The languages, each with its own name and its table. */
 export const LANGUAGES = {en: {name: "English", table: EN}, de: {name: "Deutsch", table: DE}};
@@ -17,10 +18,11 @@ export function language() {
 /** Speaks another language from now on. */
 export function speak(next) {
     spoken = next;
+    labelsIn(next);
     forms = new Intl.PluralRules(next);
 }
 
-/** A text with its values put in by their names. One that isn't there, or lacks a value, is an error. */
+/** A text with its values put in by their names, firms and trades by their labels. One that isn't there, or lacks a value, is an error. */
 export function say(key, values = {}) {
     const [part, name] = key.split("."), entry = LANGUAGES[spoken].table[part]?.[name];
     if (entry === undefined) throw new Error(`There is no text ${key} in ${spoken}.`);
@@ -30,5 +32,5 @@ export function say(key, values = {}) {
 
 function given(values, name, key) {
     if (values[name] === undefined) throw new Error(`The text ${key} wants ${name}.`);
-    return values[name];
+    return called(name, values[name]);
 }

@@ -5,6 +5,7 @@ import {belongs, isSo, NoAnswer, readAnswer} from "../../page/read/answer.js";
 import {NotJson, readable, textOf} from "../../page/read/json.js";
 import {Network} from "../../page/read/network.js";
 import {askOf} from "./ask.mjs";
+import {speakOf} from "../../page/words/labels.js";
 
 /** The built program, or null. */
 export const ask = askOf();
@@ -34,8 +35,9 @@ export function documentAt(file) {
     }
 }
 
-/** The answer that was read, which has to be one to a document. */
+/** The answer that was read, which has to be one to a document; by its labels firms and trades are called from now on. */
 export async function answerTo(network, said) {
+    speakOf(network);
     belongs(network, said);
     await isSo(network, said, ask);
     return said;

@@ -3,11 +3,12 @@
 import {limitsOf} from "../../read/limits.js";
 import {say} from "../../words/say.js";
 import {
-    firmAdded, firmRemoved, freeName, itemAdded, itemRemoved, itemsIn, moved, NAME, numbered, objectsIn, ofKind, renamed,
+    firmAdded, firmRemoved, freeName, itemAdded, itemRemoved, itemsIn, moved, numbered, objectsIn, ofKind, renamed,
     stretched, textAt, toggled, tradeAdded, tradesRemoved,
 } from "../document/building.js";
 import {memberOf, put, replaced} from "../document/edits.js";
 import {wholeIn, whyNotWhole} from "../shell/whole.js";
+import {calledBy, shownName, whyNoName} from "./naming.js";
 
 /** The most digits of a number of a firm. */
 const MOST_DIGITS = 10;
@@ -51,18 +52,11 @@ function choice(key, says, name, value, options, does) {
     return {key, kind: "choice", says, name, value, options: options.map(([each, shown]) => ({value: each, says: shown})), ...does};
 }
 
-/** A name that can be changed to one that no other has. `keys` are of what it says, and of its whole name. */
+/** What a firm or trade is called, which can be changed. `keys` are of what it says, and of its whole name. */
 function nameOf(key, keys, network, list, node, names) {
-    const value = textAt(node, "name"), isFree = (text) => text === value || !names.includes(text);
-    const read = (text) => NAME.test(text) && isFree(text) ? text : null, change = (text) => renamed(network, list, node, text);
-    return {key, kind: "name", says: say(keys[0]), name: say(keys[1], {name: value}), value, read, why: (text) => whyNoName(text, isFree(text)), put: change};
-}
-
-/** Why a text can't be a name. */
-function whyNoName(text, isFree) {
-    if (text === "") return say("naming.wanted");
-    if (!isFree) return say("naming.taken", {name: text});
-    return text.length > 32 ? say("naming.too_long") : say("naming.signs", {signs: [...new Set(text.match(/[^A-Za-z0-9_.-]/gu))].map((sign) => sign === " " ? say("naming.blank") : sign).join(" ")});
+    const name = textAt(node, "name"), others = names.filter((each) => each !== name);
+    return {key, kind: "name", says: say(keys[0]), name: say(keys[1], {name}), value: shownName(node), read: (text) => whyNoName(text, others) === null ? text : null,
+        why: (text) => whyNoName(text, others), put: (text) => calledBy(network, list, node, text, others)};
 }
 
 function firmsGroup(network, names, place) {

@@ -1,4 +1,5 @@
 // The table of firms: what each has, what that is worth to it, and what it would rather have.
+import {firmLabel, tradeLabel} from "../../words/labels.js";
 import {say} from "../../words/say.js";
 import {isOld, networkOf} from "../document/state.js";
 import {keepingFocus, made, part} from "../shell/page.js";
@@ -36,7 +37,7 @@ function rowOf(cells) {
 function firmRow(name, line, selection) {
     const mood = moodOf(line), isChosen = selection?.kind === "firm" && selection.name === name;
     const names = {"data-key": `row:${name}`, "data-firm": name, "aria-pressed": `${isChosen}`, class: mood};
-    const button = made("button", `${SIGNS[mood]} ${name}`.trim(), {type: "button", ...names});
+    const button = made("button", `${SIGNS[mood]} ${firmLabel(name)}`.trim(), {type: "button", title: firmLabel(name) === name ? null : name, ...names});
     if (mood !== "unknown") button.append(made("span", say(MOODS[mood]), {class: "unseen"}));
     const head = made("th", "", {scope: "row"});
     head.append(button);
@@ -54,7 +55,7 @@ export function cellsOf(line) {
 }
 
 function namesOf(names) {
-    return names.length === 0 ? say("list.none") : names.join(", ");
+    return names.length === 0 ? say("list.none") : names.map(tradeLabel).join(", ");
 }
 
 /** The firms that aren't content. */

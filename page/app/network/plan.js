@@ -2,6 +2,7 @@
 import {lanesOf} from "../../draw/lanes.js";
 import {closely, labelled, layout} from "../../draw/layout.js";
 import {NORMAL, widthOf} from "../../draw/svg.js";
+import {firmLabel, tradeLabel} from "../../words/labels.js";
 import {language, say} from "../../words/say.js";
 
 /** The room for a picture, by the shape of its place in the page. */
@@ -39,8 +40,8 @@ function lanesAt(network, firm = null) {
  * how long numbers are at most, and `shape` one of those of the rooms.
  */
 export function planOf(network, firm, digits, shape) {
-    const trades = network.trades.map(({name, seller, buyer}) => [name, seller, buyer]);
-    const key = JSON.stringify([language(), firm, digits, shape, network.firms.map(({name}) => name), trades]);
+    const trades = network.trades.map(({name, seller, buyer}) => [name, seller, buyer, tradeLabel(name)]);
+    const key = JSON.stringify([language(), firm, digits, shape, network.firms.map(({name}) => [name, firmLabel(name)]), trades]);
     if (!kept.has(key)) {
         if (kept.size >= MOST_KEPT) kept.delete(kept.keys().next().value);
         kept.set(key, madePlan(network, firm, digits, shape));
@@ -83,7 +84,7 @@ const WIDER = 1.12;
 function boxSize(name, digits, isClose) {
     const number = "0".repeat(digits), below = isClose
         ? [`\u2717 ${say("word.none")}`, `\u2717 ${number}`] : [say("word.impossible"), say("word.best", {number})];
-    const widest = Math.max(widthOf(name, NAME), ...below.map((says) => widthOf(says, BELOW)));
+    const widest = Math.max(widthOf(firmLabel(name), NAME), ...below.map((says) => widthOf(says, BELOW)));
     return {width: widest * WIDER + 12, height: isClose ? 38 : 58};
 }
 
@@ -102,5 +103,5 @@ function lineSize({trades}, digits) {
 }
 
 function nameOf(trades) {
-    return trades.length === 1 ? trades[0] : say("stage.on", {on: trades.length, all: trades.length});
+    return trades.length === 1 ? tradeLabel(trades[0]) : say("stage.on", {on: trades.length, all: trades.length});
 }

@@ -1,6 +1,7 @@
 // The network as it is guessed, or as an answer has it, drawn so that its firms and lanes can be clicked and reached by keys.
 import {spanOf} from "../../draw/lanes.js";
 import {arrow, escaped, INK, NORMAL, smooth, tag, text, widthOf} from "../../draw/svg.js";
+import {firmLabel, tradeLabel} from "../../words/labels.js";
 import {say} from "../../words/say.js";
 import {BELOW, labelPlaces, NAME, planOf, PRICE} from "./plan.js";
 
@@ -49,7 +50,7 @@ function laneAt(lane, on, stands, marks, selection) {
     const isChosen = selection?.kind === "lane" && selection.key === laneKey(lane);
     const price = spanOf(isOn ? taking : lane.trades, shownPrices(stands));
     const isSigned = stands.isSigned ?? false, counts = {on: taking.length, all: lane.trades.length};
-    const name = lane.trades.length === 1 ? lane.trades[0] : say(isSigned ? "stage.signed" : "stage.on", counts);
+    const name = lane.trades.length === 1 ? tradeLabel(lane.trades[0]) : say(isSigned ? "stage.signed" : "stage.on", counts);
     const isNamed = isOn || mark !== null || isChosen, rank = (isChosen ? 4 : 0) + (isOn ? 2 : 0) + (mark ? 1 : 0);
     return {...lane, key: laneKey(lane), name, price, isOn, mark, isChosen, isNamed, rank, isSigned};
 }
@@ -91,7 +92,7 @@ function laneSays({trades, seller, buyer, name, price, isOn, mark, isSigned}) {
     const values = {name, seller, buyer, priced, count: trades.length};
     if (trades.length === 1) return say("stage.trade",
         {...values, state: [say(STATES[isSigned][isOn]), ...marks].join(", ")});
-    return say("stage.trades", {...values, trades: [trades.join(", "), ...marks].join("; ")});
+    return say("stage.trades", {...values, trades: [trades.map(tradeLabel).join(", "), ...marks].join("; ")});
 }
 
 /** The name of a lane, with the sign of what comes or goes. */
@@ -118,8 +119,8 @@ function firmSvg({name, width, height}, {x, y}, line, isChosen, isClose) {
     const attributes = {class: `firm ${mood}${isChosen ? " chosen" : ""}`, "data-key": `firm:${name}`, "data-firm": name};
     const style = {size: BELOW, ink: INKS[mood] ?? BAD, weight: INKS[mood] ? null : "bold"};
     const lines = line ? belowOf(line, isClose) : [], top = y + 4 - lines.length * HIGH / 2;
-    return tag("g", {...attributes, role: "button", tabindex: 0, "aria-label": firmSays(name, line)}, tag("rect", box),
-        text(x, top, name, {size: NAME, weight: "bold"}), lines.map((says, k) => text(x, top + 1 + (k + 1) * HIGH, says, style)));
+    return tag("g", {...attributes, role: "button", tabindex: 0, "aria-label": firmSays(name, line)}, tag("title", {}, escaped(name)), tag("rect", box),
+        text(x, top, firmLabel(name), {size: NAME, weight: "bold"}), lines.map((says, k) => text(x, top + 1 + (k + 1) * HIGH, says, style)));
 }
 
 /** Whether a firm is content, objects, or has what is impossible, as a class; "unknown" where nothing is answered of it. */

@@ -1,5 +1,6 @@
 // The table of trades: each can be turned on or off, or signed, and be given a price, with the bounds of its price beside it. Of very
 // many only the rows in sight are there.
+import {firmLabel, tradeLabel} from "../../words/labels.js";
 import {say} from "../../words/say.js";
 import {outcomeOf} from "../document/contracts.js";
 import {isOld, networkOf} from "../document/state.js";
@@ -84,7 +85,7 @@ function rowsOf(network, value) {
     const {on, prices} = termsOf(value), {filter, firm} = value.view;
     const all = network.trades.map((trade, place) => ({...trade, place, on: on.has(trade.name), price: prices.get(trade.name)}));
     return all.filter(({name, seller, buyer}) => (firm === null || seller === firm || buyer === firm)
-        && (filter === "" || `${name} ${seller} ${buyer}`.toLowerCase().includes(filter.toLowerCase())));
+        && (filter === "" || [name, seller, buyer, tradeLabel(name), firmLabel(seller), firmLabel(buyer)].join(" ").toLowerCase().includes(filter.toLowerCase())));
 }
 
 function sorted(all, {by, isDown}) {
@@ -96,9 +97,9 @@ function sorted(all, {by, isDown}) {
 
 function fillFirms(network, view) {
     const names = network.firms.map(({name}) => name).filter((name) => name !== ""), select = part("by-firm");
-    const all = say("page.all_firms"), key = JSON.stringify([all, names]);
+    const all = say("page.all_firms"), key = JSON.stringify([all, names.map((name) => [name, firmLabel(name)])]);
     if (select.dataset.names !== key) {
-        select.replaceChildren(new Option(all, ""), ...names.map((name) => new Option(name, name)));
+        select.replaceChildren(new Option(all, ""), ...names.map((name) => new Option(firmLabel(name), name)));
         select.dataset.names = key;
     }
     select.value = view.firm ?? "";
@@ -184,9 +185,10 @@ function update(element, row, place, value, {scale, range, isOldRange}) {
     const [head, from, to, on, price, bounds] = element.cells, box = on.firstElementChild, field = price.firstElementChild;
     element.setAttribute("aria-rowindex", place + 2);
     element.className = `${row.on ? "on" : ""}${isChosen(row, value.selection) ? " chosen" : ""}`.trim();
-    if (from.textContent !== row.seller) from.textContent = row.seller;
-    if (to.textContent !== row.buyer) to.textContent = row.buyer;
-    if (head.textContent !== row.name) head.textContent = row.name;
+    for (const [cell, says, name] of [[head, tradeLabel(row.name), row.name], [from, firmLabel(row.seller), row.seller], [to, firmLabel(row.buyer), row.buyer]]) {
+        if (cell.textContent !== says) cell.textContent = says;
+        cell.title = says === name ? "" : name;
+    }
     box.checked = row.on;
     box.setAttribute("aria-label", say(value.view.mode === "sign" ? "stage.name_signed" : "stage.name_on",
         {name: row.name}));

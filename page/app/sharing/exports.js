@@ -1,4 +1,5 @@
 // What goes out of the page as a file: the document, a picture, an answer, and tables.
+import {firmLabel, tradeLabel} from "../../words/labels.js";
 import {say} from "../../words/say.js";
 import {cellsOf, HEADS, linesOf} from "../network/firms.js";
 import {offer, part} from "../shell/page.js";
@@ -42,11 +43,11 @@ export function lineOf({words, document}) {
 
 /** The table of firms, with its heads. */
 export function firmsTable({guess}) {
-    return [HEADS.map((head) => say(head)), ...[...linesOf(guess).values()].map((line) => [line.firm, ...cellsOf(line)])];
+    return [HEADS.map((head) => say(head)), ...[...linesOf(guess).values()].map((line) => [firmLabel(line.firm), ...cellsOf(line)])];
 }
 
 /** The ranges of prices; 1 stands beside a trade that takes place. */
 export function rangesTable({ranges: {said}}) {
-    const lines = said.ranges.map(({trade, low, high}) => [trade, said.on.includes(trade) ? 1 : 0, low ?? "", high ?? ""]);
+    const lines = said.ranges.map(({trade, low, high}) => [tradeLabel(trade), said.on.includes(trade) ? 1 : 0, low ?? "", high ?? ""]);
     return [["head.trade", "head.on", "head.low", "head.high"].map((head) => say(head)), ...lines];
 }

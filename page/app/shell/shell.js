@@ -1,4 +1,5 @@
 // What stands around the network and the tables: buttons, tabs, notices, and the states that the page names.
+import {noteOf} from "../../words/labels.js";
 import {say} from "../../words/say.js";
 import {outcomeOf} from "../document/contracts.js";
 import {hasArrangement} from "../document/edits.js";
@@ -30,10 +31,21 @@ export function showShell(value) {
     able("undo", past.length > 0);
     able("redo", future.length > 0);
     showPanel(view.panel);
+    showNote(value);
     showMode(value);
     showText(value);
     showOver(value);
     showRanges(value);
+}
+
+/** The document's note: its first line is the title, and the rest the task; in an exercise, which has a title, the inner note is the task. */
+function showNote({document}) {
+    const {data: {note}} = networkOf(document), {exercise} = document, says = noteOf(exercise === null ? note : note?.note) ?? "";
+    const [first, ...more] = exercise === null ? says.split("\n") : ["", says], task = more.join("\n").trim();
+    for (const [id, text] of [["title", first], ["task", task]]) {
+        write(id, text);
+        part(id).hidden = text === "";
+    }
 }
 
 /** How far the program is with what it is asked without being asked for. */

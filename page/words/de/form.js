@@ -8,8 +8,7 @@ export const FORM = {
         too_long: "{text} ist zu lang: eine Zahl hat höchstens {most} Ziffern.", between: "Gefragt ist eine ganze Zahl von {least} bis {most}.",
     },
     naming: {
-        wanted: "Hier fehlt ein Name.", taken: "{name} gibt es schon.", too_long: "Ein Name hat höchstens 32 Zeichen.", blank: "ein Leerzeichen",
-        signs: "Ein Name hat nur Buchstaben von a bis z, Ziffern und _ . - und nicht: {signs}",
+        wanted: "Hier fehlt ein Name.", taken: "{name} gibt es schon.", too_long: "Ein Name hat höchstens {most} Zeichen.",
     },
     build: {
         too_long: "Das Dokument ist zu lang, um hier betrachtet zu werden.",

@@ -8,8 +8,7 @@ export const FORM = {
         too_long: "{text} is too long: a number has at most {most} digits.", between: "A whole number from {least} to {most} is wanted.",
     },
     naming: {
-        wanted: "A name is wanted.", taken: "{name} is there already.", too_long: "A name has at most 32 signs.", blank: "a blank",
-        signs: "A name has letters from a to z, digits, and _ . - alone, and not: {signs}",
+        wanted: "A name is wanted.", taken: "{name} is there already.", too_long: "A name has at most {most} signs.",
     },
     build: {
         too_long: "The document is too long to be looked at here.",
