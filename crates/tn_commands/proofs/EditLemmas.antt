@@ -30,7 +30,7 @@ use Rattle.tn_commands.proofs.SolveLemmas.{small_prices}
 use Rattle.tn_commands.specs.Limits.{AreWorthsAnswered, most_answered_trades}
 use Rattle.tn_model.specs.Limits.{most_price, most_worth_among}
 use Rattle.tn_commands.specs.declared.session.Kept.{Kept}
-use Rattle.tn_commands.specs.Session.{AreStates, IsAfter, IsStateAfter, IsStateOf, StandsAfter, StandsOn, after, is_admitted_after, is_admitted_by, is_away_after, is_away_by, is_usable_after}
+use Rattle.tn_commands.specs.Session.{AreAfter, AreStates, IsAfter, IsStateAfter, IsStateOf, StandsAfter, StandsOn, after, is_admitted_after, is_admitted_by, is_away_after, is_away_by, is_usable_after}
 
 -- ---- where a session stands
 
@@ -106,21 +106,56 @@ after_elsewhere edits t trade kept next used after_it before admitted_is seller_
 }
 
 -- the trades below t are as after an edit, the others as before it
+pub record AreBelow (trades : List Ends) (edits : List Edit) (edit : Edit) (t : ℕ) (kept : Kept) (used : ℕ) : Type
+    0 where
+  pub done : (k : ℕ) (trade : Ends) → k < t → slice_get trades k ≡ Some trade
+      → IsAfter (edits ++ edit ∷ []) k trade kept used
+  pub others : (k : ℕ) (trade : Ends) → t ≤ k → slice_get trades k ≡ Some trade → IsAfter edits k trade kept used
+
+pub none_edited : (trades : List Ends) (edits : List Edit) (edit : Edit) (kept : Kept) (used : ℕ)
+    → AreAfter trades edits kept used → AreBelow trades edits edit 0 kept used
+none_edited trades edits edit kept used after_it = record {
+  done = λ k trade below. absurd (omega (arith, below));
+  others = λ k trade above is. after_it k trade is;
+}
+
+pub one_more_edited : (trades : List Ends) (edits : List Edit) (edit : Edit) (t : ℕ) (trade : Ends) (kept next : Kept)
+    (used moved : ℕ) → slice_get trades t ≡ Some trade → AreBelow trades edits edit t kept used
+    → (IsAfter edits t trade kept used → IsAfter (edits ++ edit ∷ []) t trade next moved)
+    → ((seen : List Edit) (k : ℕ) (other : Ends) → k ≢ t → IsAfter seen k other kept used
+    → IsAfter seen k other next moved)
+    → AreBelow trades edits edit (t + 1) next moved
+one_more_edited trades edits edit t trade kept next used moved is before here elsewhere = record {
+  done = λ k other below at. elim (cases_eq k t) [
+    | inl same ↦
+        subst (λ (one : Ends). IsAfter (edits ++ edit ∷ []) k one next moved)
+        (same_Some trade other (sym is ∙ ap (slice_get trades) (sym same) ∙ at))
+        (subst (λ (n : ℕ). IsAfter (edits ++ edit ∷ []) n trade next moved) (sym same)
+        (here (before.others t trade (omega arith) is)))
+    | inr apart ↦ elsewhere (edits ++ edit ∷ []) k other apart (before.done k other (omega (arith, below, apart)) at)
+  ];
+  others = λ k other above at. elsewhere edits k other (λ same. absurd (omega (arith, above, same)))
+      (before.others k other (omega (arith, above)) at);
+}
+
+pub all_edited : (trades : List Ends) (edits : List Edit) (edit : Edit) (t : ℕ) (kept : Kept) (used : ℕ)
+    → length trades ≤ t → AreBelow trades edits edit t kept used → AreAfter trades (edits ++ edit ∷ []) kept used
+all_edited trades edits edit t kept used end below = λ j trade at.
+    let inside = slice_get_within trades j trade at in
+    below.done j trade (omega (arith, inside, end)) at
+
+-- and a session stands on the market with these
 pub record AreBelowAfter (firms : List FirmValue) (trades : List Ends) (edits : List Edit) (edit : Edit) (t : ℕ)
     (kept : Kept) (session : Standing FirmValue) : Type 0 where
   pub stands : StandsOn firms trades session
-  pub done : (k : ℕ) (trade : Ends) → k < t → slice_get trades k ≡ Some trade
-      → IsAfter (edits ++ edit ∷ []) k trade kept session.admitted
-  pub others : (k : ℕ) (trade : Ends) → t ≤ k → slice_get trades k ≡ Some trade
-      → IsAfter edits k trade kept session.admitted
+  pub each : AreBelow trades edits edit t kept session.admitted
 
 pub none_below : (firms : List FirmValue) (trades : List Ends) (edits : List Edit) (edit : Edit) (kept : Kept)
     (session : Standing FirmValue) → StandsAfter firms trades edits kept session
     → AreBelowAfter firms trades edits edit 0 kept session
 none_below firms trades edits edit kept session stands = record {
   stands = stands.stands;
-  done = λ k trade below. absurd (omega (arith, below));
-  others = λ k trade above is. stands.each k trade is;
+  each = none_edited trades edits edit kept session.admitted stands.each;
 }
 
 pub one_more_trade : (firms : List FirmValue) (trades : List Ends) (edits : List Edit) (edit : Edit) (t : ℕ)
@@ -133,16 +168,8 @@ pub one_more_trade : (firms : List FirmValue) (trades : List Ends) (edits : List
     → AreBelowAfter firms trades edits edit (t + 1) next moved
 one_more_trade firms trades edits edit t trade kept next session moved is before stands here elsewhere = record {
   stands = stands;
-  done = λ k other below at. elim (cases_eq k t) [
-    | inl same ↦
-        subst (λ (one : Ends). IsAfter (edits ++ edit ∷ []) k one next moved.admitted)
-        (same_Some trade other (sym is ∙ ap (slice_get trades) (sym same) ∙ at))
-        (subst (λ (n : ℕ). IsAfter (edits ++ edit ∷ []) n trade next moved.admitted) (sym same)
-        (here (before.others t trade (omega arith) is)))
-    | inr apart ↦ elsewhere (edits ++ edit ∷ []) k other apart (before.done k other (omega (arith, below, apart)) at)
-  ];
-  others = λ k other above at. elsewhere edits k other (λ same. absurd (omega (arith, above, same)))
-      (before.others k other (omega (arith, above)) at);
+  each = one_more_edited trades edits edit t trade kept next session.admitted moved.admitted is before.each here
+      elsewhere;
 }
 
 pub all_below : (firms : List FirmValue) (trades : List Ends) (edits : List Edit) (k : ℕ) (edit : Edit) (t : ℕ)
@@ -153,8 +180,32 @@ all_below firms trades edits k edit t kept session is end below =
     subst (λ (seen : List Edit). StandsAfter firms trades seen kept session) (sym (take_more edits k edit is))
     (record {
       stands = below.stands;
-      each = λ j trade at. let inside = slice_get_within trades j trade at in
-          below.done j trade (omega (arith, inside, end)) at;
+      each = all_edited trades (take k edits) edit t kept session.admitted end below.each;
+    })
+
+-- a session that admits just the trades that can be used after one more edit
+pub stands_together : (firms : List FirmValue) (trades : List Ends) (edits : List Edit) (k : ℕ) (edit : Edit)
+    (kept next : Kept) (used : ℕ) (session moved : Standing FirmValue) → slice_get edits k ≡ Some edit
+    → StandsAfter firms trades (take k edits) kept session → moved.market ≡ session.market
+    → HoldsEquilibrium firm_of moved → HasSmallPrices firm_of moved
+    → (AreAfter trades (take k edits) kept session.admitted → AreAfter trades (take k edits ++ edit ∷ []) next used)
+    → ((t : ℕ) → t < length session.market.trades → has moved.admitted t ≡ has used t)
+    → StandsAfter firms trades (take (k + 1) edits) next moved
+stands_together firms trades edits k edit kept next used session moved is before market equilibrium small edited
+    admits =
+    subst (λ (seen : List Edit). StandsAfter firms trades seen next moved) (sym (take_more edits k edit is))
+    (record {
+      stands = stands_from firms trades moved (market ∙ before.stands.market) before.stands.worths equilibrium
+          small;
+      each = λ t trade at.
+          let one = edited before.each t trade at in
+          let inside = slice_get_within trades t trade at in record {
+            admitted = one.admitted;
+            seller = one.seller;
+            buyer = one.buyer;
+            usable = admits t (subst (λ (m : Traded FirmValue). t < length m.trades) (sym before.stands.market)
+                inside) ∙ one.usable;
+          };
     })
 
 -- before all edits nothing is admitted and no firm is away

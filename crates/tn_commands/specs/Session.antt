@@ -112,11 +112,16 @@ pub record IsAfter (edits : List Edit) (t : ℕ) (trade : Ends) (kept : Kept) (u
   pub buyer : has kept.buyer_away t ≡ is_away_after edits trade.buyer
   pub usable : has used t ≡ is_usable_after edits t trade
 
+-- the same of each trade
+abbrev pub AreAfter : List Ends → List Edit → Kept → ℕ → Type 0
+AreAfter trades edits kept used = (t : ℕ) (trade : Ends) → slice_get trades t ≡ Some trade
+    → IsAfter edits t trade kept used
+
 -- all that is kept, and the session, are as after some edits
 pub record StandsAfter (firms : List FirmValue) (trades : List Ends) (edits : List Edit) (kept : Kept)
     (session : Standing FirmValue) : Type 0 where
   pub stands : StandsOn firms trades session
-  pub each : (t : ℕ) (trade : Ends) → slice_get trades t ≡ Some trade → IsAfter edits t trade kept session.admitted
+  pub each : AreAfter trades edits kept session.admitted
 
 -- how many worths an edit may ask for, of all trades too: as many for each trade as a graph of the firms has
 abbrev pub edit_worths : List Firm → List Ends → ℕ

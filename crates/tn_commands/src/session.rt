@@ -3,7 +3,7 @@
 ghost use Rattle.std.specs.Prelude.{◌≡◌, ◌≢◌, ℕ, ◌+◌, ◌*◌, ◌<◌, ◌≤◌, List, [], ◌∷◌, ◌++◌, ◌&&◌, not, All, IfOk, length, map, take};
 ghost use Rattle.tn_base.specs.Sets.{has};
 ghost use Rattle.tn_answer.specs.Kept.{IsWithinClaims, IsWithinState};
-ghost use Rattle.tn_commands.specs.Session.{AreStates, IsAfter, IsStateOf, StandsAfter, StandsOn, TellsStates, edit_worths, is_admitted_by, is_away_by};
+ghost use Rattle.tn_commands.specs.Session.{AreAfter, AreStates, IsAfter, IsStateOf, StandsAfter, StandsOn, TellsStates, edit_worths, is_admitted_by, is_away_by};
 ghost use Rattle.tn_commands.specs.Limits.{AreWorthsAnswered, most_answered_trades};
 ghost use Rattle.tn_firm.specs.Firms.{firm_of};
 ghost use Rattle.tn_model.specs.Prices.{price_at};
@@ -13,7 +13,7 @@ ghost use Rattle.tn_session.specs.Standing.{HasSmallPrices, HoldsEquilibrium};
 ghost use Rattle.tn_market.specs.Graph.{graph_worths};
 ghost use Rattle.tn_market.specs.NetworkOf.{network_of};
 
-use crate::solve::{surplus, trades_on};
+use crate::solve::{FEW_TRADES, surplus, trades_on};
 use std::alloc::Global;
 use tn_base::{Asked, OutOfMemory, Steps, TradeSet};
 use tn_firm::FirmValue;
@@ -148,6 +148,23 @@ fn put_to_use(session: &mut Session<FirmValue, 16>, t: u32, used: bool, steps: &
     }
 }
 
+/// Keeps what an edit says of trade `t`, and answers whether the trade can be used then.
+fn keep_edit(kept: &mut Kept, edit: Edit, t: u32, trade: Ends) -> bool
+    requires { t < most_answered_trades }
+    ensures here { (edits : List Edit) (used next : ℕ) → IsAfter edits t trade kept.old used → has next t ≡ result
+        → IsAfter (edits ++ edit ∷ []) t trade kept.new next }
+    ensures elsewhere { (edits : List Edit) (k : ℕ) (other : _) (used next : ℕ) → k ≢ t
+        → IsAfter edits k other kept.old used → has next k ≡ has used k → IsAfter edits k other kept.new next }
+{
+    let is_admitted = is_admitted_by(t, edit, kept.admitted.has(t));
+    let is_seller_away = is_away_by(trade.seller, edit, kept.seller_away.has(t));
+    let is_buyer_away = is_away_by(trade.buyer, edit, kept.buyer_away.has(t));
+    put(&mut kept.admitted, t, is_admitted);
+    put(&mut kept.seller_away, t, is_seller_away);
+    put(&mut kept.buyer_away, t, is_buyer_away);
+    is_usable(kept, t)
+}
+
 /// Makes an edit at trade `t` alone.
 fn make_at(
     session: &mut Session<FirmValue, 16>,
@@ -167,18 +184,12 @@ fn make_at(
         → IsAfter edits k other kept.new session.new.admitted }
     ensures asked { steps.new ≤ steps.old + graph_worths (map firm_of session.old.market.firms) }
 {
-    let is_admitted = is_admitted_by(t, edit, kept.admitted.has(t));
-    let is_seller_away = is_away_by(trade.seller, edit, kept.seller_away.has(t));
-    let is_buyer_away = is_away_by(trade.buyer, edit, kept.buyer_away.has(t));
-    put(&mut kept.admitted, t, is_admitted);
-    put(&mut kept.seller_away, t, is_seller_away);
-    put(&mut kept.buyer_away, t, is_buyer_away);
-    let used = is_usable(kept, t);
+    let used = keep_edit(kept, edit, t, trade);
     put_to_use(session, t, used, steps);
 }
 
-/// Makes the edit with index `k`, at each trade.
-fn make(
+/// Makes the edit with index `k`, trade by trade.
+fn make_each(
     session: &mut Session<FirmValue, 16>,
     kept: &mut Kept,
     market: &Market<FirmValue>,
@@ -195,6 +206,72 @@ fn make(
     let edit = *edits.at(k);
     for t in 0..market.trades() {
         make_at(session, kept, edit, t, market.ends(t), steps);
+    }
+}
+
+/// Keeps what an edit says of trade `t`, and puts the trade into a set where it can be used then.
+fn keep_at(kept: &mut Kept, used: &mut TradeSet<16>, edit: Edit, t: u32, trade: Ends)
+    requires { t < most_answered_trades }
+    ensures here { (edits : List Edit) → IsAfter edits t trade kept.old used.old
+        → IsAfter (edits ++ edit ∷ []) t trade kept.new used.new }
+    ensures elsewhere { (edits : List Edit) (k : ℕ) (other : _) → k ≢ t → IsAfter edits k other kept.old used.old
+        → IsAfter edits k other kept.new used.new }
+{
+    let is_used = keep_edit(kept, edit, t, trade);
+    put(used, t, is_used);
+}
+
+/// Keeps what an edit says of each trade, and makes a set that of the trades that can be used then.
+fn keep_all(kept: &mut Kept, used: &mut TradeSet<16>, market: &Market<FirmValue>, edit: Edit)
+    requires wide { length market.now.trades ≤ most_answered_trades }
+    ensures { (edits : List Edit) → AreAfter market.now.trades edits kept.old used.old
+        → AreAfter market.now.trades (edits ++ edit ∷ []) kept.new used.new }
+{
+    for t in 0..market.trades() {
+        keep_at(kept, used, edit, t, market.ends(t));
+    }
+}
+
+/// Makes the edit with index `k` at all trades at once.
+fn make_together(
+    session: &mut Session<FirmValue, 16>,
+    kept: &mut Kept,
+    market: &Market<FirmValue>,
+    edits: &Edits,
+    k: usize,
+    steps: &mut Steps<Asked>,
+)
+    requires wide { length market.now.trades ≤ most_answered_trades }
+    requires known { k < length edits.now }
+    requires stands { StandsAfter market.now.firms market.now.trades (take k edits.now) kept.old session.old }
+    ensures stands { StandsAfter market.now.firms market.now.trades (take (k + 1) edits.now) kept.new session.new }
+    ensures asked { steps.new ≤ steps.old + edit_worths (map firm_of market.now.firms) market.now.trades }
+{
+    let mut used = *session.admitted();
+    keep_all(kept, &mut used, market, *edits.at(k));
+    session.admit_only(&used, steps);
+}
+
+/// Makes the edit with index `k`. Prices are the same either way; but where several sets of trades are efficient, trade
+/// by trade may lead to another one, so markets of at most 128 trades keep to that.
+fn make(
+    session: &mut Session<FirmValue, 16>,
+    kept: &mut Kept,
+    market: &Market<FirmValue>,
+    edits: &Edits,
+    k: usize,
+    steps: &mut Steps<Asked>,
+)
+    requires wide { length market.now.trades ≤ most_answered_trades }
+    requires known { k < length edits.now }
+    requires stands { StandsAfter market.now.firms market.now.trades (take k edits.now) kept.old session.old }
+    ensures stands { StandsAfter market.now.firms market.now.trades (take (k + 1) edits.now) kept.new session.new }
+    ensures asked { steps.new ≤ steps.old + edit_worths (map firm_of market.now.firms) market.now.trades }
+{
+    if market.trades() <= FEW_TRADES {
+        make_each(session, kept, market, edits, k, steps);
+    } else {
+        make_together(session, kept, market, edits, k, steps);
     }
 }
 

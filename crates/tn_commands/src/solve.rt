@@ -24,7 +24,7 @@ use tn_said::Said;
 
 /// Up to so many trades an equilibrium is found by rounds alone, so that which of several efficient sets is answered
 /// stays as it was.
-const FEW_TRADES: u32 = 128;
+pub(crate) const FEW_TRADES: u32 = 128;
 
 /// The trades of a set, ascending.
 pub(crate) fn trades_on(alloc: Global, on: &TradeSet<16>, count: u32) -> Result<Trades, OutOfMemory>
