@@ -213,7 +213,7 @@ def tries_by_finger(page: Bench, program: str | None):
     page.press("Control+z")
     yield "which is taken back as one change", ["o1b1", 8] in json.loads(page.text())["arrangement"]["prices"]
     page.click("#tab-whatif")
-    yield "in a what-if there are none", page.value("document.getElementById('nudge').hidden")
+    yield "in a what-if there are none", page.value("getComputedStyle(document.getElementById('nudge')).visibility") == "hidden"
     page.click("#tab-guess")
     small = page.value("[...document.querySelectorAll('input, select, textarea')].filter((each) => parseFloat(getComputedStyle(each).fontSize) < 16).map(({id}) => id)")
     yield f"no field's letters are so small that a telephone zooms {small}", small == []
@@ -1006,6 +1006,11 @@ def tries_of_access(page: Bench):
     page.open("exercise.json", b'{"version":1,"firms":[],"trades":[],"note":{"exercise":"None","goal":"equilibrium"}}')
     nodes = tree_of(page)
     yield "and all of an exercise", unnamed(nodes) == [] and {"Your name", "Save the result"} <= set(names_in(nodes))
+    page.open("used-cars.json", look.example("used-cars.json"))
+    page.browser.forced_colours(True)
+    ground = page.value("getComputedStyle(document.getElementById('stage')).backgroundColor")
+    page.browser.forced_colours(False)
+    yield f"in forced colours the picture keeps its light ground {ground}", ground == "rgb(255, 255, 255)"
     style = (HERE.parent / "style.css").read_text()
     colours = dict(re.findall(r"--([\w-]+): (#[0-9a-f]{6})", style))
     pairs = [(text, ground) for text in ("ink", "quiet", "good", "bad") for ground in ("paper", "ground")]

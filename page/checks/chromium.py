@@ -59,6 +59,10 @@ class Chromium:
         self.size(width, height)
         self.driver.save_screenshot(path)
 
+    def forced_colours(self, is_so: bool) -> None:
+        """Whether the page is looked at in the colours that somebody forces on all pages."""
+        self.driver.execute_cdp_cmd("Emulation.setEmulatedMedia", {"features": [{"name": "forced-colors", "value": "active" if is_so else "none"}]})
+
     def printed(self) -> bytes:
         """The page as it is printed, as PDF."""
         return base64.b64decode(self.driver.execute_cdp_cmd("Page.printToPDF", {"paperWidth": 8.27, "paperHeight": 11.69})["data"])

@@ -11,7 +11,7 @@ import look
 # All that stands in the page to be read or heard, but for what comes from documents, names of examples and licences.
 READ = """
 const page = document.body.cloneNode(true);
-for (const each of page.querySelectorAll("script, noscript, pre, option[value$='.json'], .CodeMirror, #version, #language, .quiet > summary")) each.remove();
+for (const each of page.querySelectorAll("script, noscript, pre, option[value$='.json'], .CodeMirror, #title, #task, #version, #language, .quiet > summary")) each.remove();
 const names = ["aria-label", "placeholder", "title", "label"].flatMap((name) => [...page.querySelectorAll(`[${name}]`)].map((each) => each.getAttribute(name)));
 const texts = [...page.querySelectorAll("*")].flatMap((each) => [...each.childNodes].filter(({nodeType}) => nodeType === 3).map(({data}) => data.trim()));
 return [...new Set([...names, ...texts])].filter((text) => /[a-z]{3}/.test(text));"""

@@ -9,7 +9,7 @@ from base64 import b64encode
 from pathlib import Path
 
 import look
-from bench import CHOSEN, KEEP, OFFERED, STEPS, Bench, asked, judged, label
+from bench import CHOSEN, KEEP, OFFERED, REFUSED, STEPS, Bench, asked, judged, label
 
 
 def tries(page: Bench, program: str | None):
@@ -63,7 +63,9 @@ def tries_to_build(page: Bench, program: str | None):
     yield "a trade has another name wherever it is named", whole["firms"][0]["rows"] == [[["car"], -4]] and whole["arrangement"] == {"on": ["car"], "prices": [["car", 0]]}
     page.drag(entry("firm name"), 0)
     page.press("Control+a", "B", "Tab")
-    yield "a name that another has isn't taken", json.loads(page.text())["firms"][0]["name"] == "S" and page.value("document.querySelector(arguments[0]).value", entry("firm name")) == "S"
+    yield "a name that another has isn't taken", json.loads(page.text())["firms"][0]["name"] == "S" and page.browser.run(REFUSED, "firm name")[0] == "B"
+    page.focus("firm name")
+    page.press("Escape")
     page.focus("firm:B")
     page.press("Enter")
     yield "a firm that is chosen in the network is shown", page.value("document.querySelector(arguments[0]).value", entry("firm name")) == "B"

@@ -1,5 +1,6 @@
 """What is tried of what-ifs, by pointer and keys: firms that leave and join, trades that are barred, and what each contributes."""
 import json
+import re
 
 import bench
 import look
@@ -116,6 +117,7 @@ def tries_to_go_on(page: bench.Bench, program: str | None):
     page.drag(bench.label("D B1"), -32)
     before = page.text()
     yield "a drag changes no price", '["db1",11]' in before and supposed(page) == "With everybody there the worths sum to 10."
+    page.click("#zoom-fit")
     page.click(bench.label("D B1"))
     supposed(page)
     page.click("#whatif-put")
@@ -150,7 +152,7 @@ def tries_of_contributions(page: bench.Bench, program: str | None):
     page.browser.run(bench.KEEP)
     page.click("#picture-save")
     [[name, picture]] = page.browser.run(bench.OFFERED)
-    yield "the picture is saved with what comes and goes", name == "houses.svg" and "took place before" in picture
+    yield "the picture is saved with what comes and goes", name == "houses.svg" and re.search(">[+\u2212] h", picture) is not None
     page.click("#tab-guess")
 
 

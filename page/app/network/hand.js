@@ -1,5 +1,5 @@
 // Pointer and keys on the network: a click turns a trade on or off, a drag gives it a price, and elsewhere moves the picture. A finger
-// that is drawn over it scrolls the page, or moves the picture, and changes no price; the buttons of the chosen trade do.
+// that is drawn over it scrolls the page, or moves the picture to a side, and changes no price; the buttons of the chosen trade do.
 import {priceOf, setPrice, turn} from "../document/terms.js";
 import {part} from "../shell/page.js";
 import {suppose} from "../whatif/suppose.js";
@@ -27,7 +27,7 @@ export function handle(store, type) {
         if (!held.isMoved) stage.setPointerCapture(event.pointerId);
         held.isMoved = true;
         if (held.trade) dragPrice(store, held, Math.round(-dy / PER_STEP), event.shiftKey);
-        else store.act("looked", panned(held.view, dx, dy));
+        else store.act("looked", panned(held.view, dx, event.pointerType === "touch" ? 0 : dy));
     });
     stage.addEventListener("pointerup", () => {
         if (held !== null && !held.isMoved) choose(store, held.key, true);

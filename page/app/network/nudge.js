@@ -1,4 +1,4 @@
-// The buttons of the chosen trade, over the network, by which a finger changes its price.
+// The buttons of the chosen trade, below the network, by which a finger changes its price.
 import {say} from "../../words/say.js";
 import {priceOf} from "../document/terms.js";
 import {on, part, write} from "../shell/page.js";
@@ -13,7 +13,7 @@ export function readyNudge(store) {
 /** Shows the buttons of the trade that is chosen, if one is. */
 export function showNudge(value) {
     const name = value.document.isWhole ? nudged(value) : null;
-    part("nudge").hidden = name === null;
+    part("nudge").classList.toggle("none", name === null);
     if (name === null) return;
     write("nudge-says", say("picture.at", {name, price: priceOf(value, name)}));
     part("nudge-less").setAttribute("aria-label", say("stage.less", {name}));

@@ -119,7 +119,7 @@ function firmSvg({name, width, height}, {x, y}, line, isChosen, isClose) {
     const attributes = {class: `firm ${mood}${isChosen ? " chosen" : ""}`, "data-key": `firm:${name}`, "data-firm": name};
     const style = {size: BELOW, ink: INKS[mood] ?? BAD, weight: INKS[mood] ? null : "bold"};
     const lines = line ? belowOf(line, isClose) : [], top = y + 4 - lines.length * HIGH / 2;
-    return tag("g", {...attributes, role: "button", tabindex: 0, "aria-label": firmSays(name, line)}, tag("title", {}, escaped(name)), tag("rect", box),
+    return tag("g", {...attributes, role: "button", tabindex: 0, "aria-label": firmSays(name, line)}, firmLabel(name) === name ? null : tag("title", {}, escaped(name)), tag("rect", box),
         text(x, top, firmLabel(name), {size: NAME, weight: "bold"}), lines.map((says, k) => text(x, top + 1 + (k + 1) * HIGH, says, style)));
 }
 
