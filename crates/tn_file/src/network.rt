@@ -144,10 +144,11 @@ fn read_claimed(
             let claim = read_firm_claim(alloc, head, kind, claim)?;
             Ok(Parts::Raw(made, RawAsked::Replay(claim)))
         }
-        Err(error) => {
+        Err(ReadError::Fault(fault)) => {
             let made: Vec<FirmValue> = read_firms(alloc, head, firms)?;
             drop(made);
-            Err(error)
+            Err(ReadError::Fault(fault))
         }
+        Err(ReadError::OutOfMemory) => Err(ReadError::OutOfMemory),
     }
 }

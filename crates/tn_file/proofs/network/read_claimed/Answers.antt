@@ -11,13 +11,13 @@ use Rattle.tn_file.proofs.network.read_claimed.Goals as goal
 
 pub read_market_claim-requires : goal.read_market_claim-requires
 read_market_claim-requires c =
-    let made = c.in_ok-made-in-Ok-OnMarket.made.items in
+    let made = c.in_ok-made-in-Ok-OnMarket-default.made.items in
     let items = items_view c.args.firms.now in
     let count : length (map firm_of made) ≡ items_len items =
     (firms_are_counted true c.args.head.now c.requires.trades items).at (map firm_of made)
-    c.in_ok-made-in-Ok-OnMarket.ensures.gives in
+    c.in_ok-made-in-Ok-OnMarket-default.ensures.gives in
     record {
-      few = λ f known. c.in_ok-made-in-Ok-OnMarket.ensures.few f (omega (
+      few = λ f known. c.in_ok-made-in-Ok-OnMarket-default.ensures.few f (omega (
         arith,
         known,
         c.requires.count,
@@ -29,13 +29,13 @@ read_market_claim-requires c =
 
 pub read_firm_claim-requires : goal.read_firm_claim-requires
 read_firm_claim-requires c =
-    let made = c.in_ok-made-in-Ok-OnFirms.made.items in
+    let made = c.in_ok-made-in-Ok-OnFirms-default.made.items in
     let items = items_view c.args.firms.now in
     let count : length (map raw_firm_of made) ≡ items_len items =
     (firms_are_counted false c.args.head.now c.requires.trades items).at (map raw_firm_of made)
-    c.in_ok-made-in-Ok-OnFirms.ensures.gives in
+    c.in_ok-made-in-Ok-OnFirms-default.ensures.gives in
     record {
-      few = λ f known. c.in_ok-made-in-Ok-OnFirms.ensures.few f (omega (
+      few = λ f known. c.in_ok-made-in-Ok-OnFirms-default.ensures.few f (omega (
         arith,
         known,
         c.requires.count,
