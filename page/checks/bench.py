@@ -151,7 +151,7 @@ def label(trade_ends: str) -> str:
 
 def tries(page: Bench, program: str | None):
     """Each as a name, and whether it is so."""
-    for part in (tries_to_guess, tries_by_finger, tries_of_refusals, tries_of_labels, tries_of_undo, tries_to_solve, tries_of_ranges, tries_of_what_goes, tries_of_complements, tries_of_reasons,
+    for part in (tries_to_guess, tries_by_finger, tries_of_refusals, tries_of_labels, tries_of_own_numbers, tries_of_undo, tries_to_solve, tries_of_ranges, tries_of_what_goes, tries_of_complements, tries_of_reasons,
                  tries_of_first_steps, tries_to_sign, tries_of_claims, tries_of_the_text, tries_to_open, tries_of_versions, tries_to_print, tries_of_files, tries_of_size, tries_of_ill_will):
         yield from part(page, program)
 
@@ -295,6 +295,29 @@ def tries_of_labels(page: Bench, program: str | None):
     yield "and a table in German has semicolons", table.startswith("\ufeffFirma;Hat;") and "\nBenno;das Fahrrad;9;5;;0\n" in table
     page.browser.run("const select = document.getElementById('language'); select.value = 'en'; select.dispatchEvent(new Event('change'))")
     page.open("used-cars.json", look.example("used-cars.json"))
+
+
+OWN = {"O1": "sells from 4", "D": "passes one on", "B1": "pays up to 9 to 12"}
+
+
+def tries_of_own_numbers(page: Bench, program: str | None):
+    """What the document says of firms stands in their boxes; for each firm whose trades have worths of their own these are the program's."""
+    page.open("used-cars.json", look.example("used-cars.json"))
+    page.guess()
+    drawn = page.drawn()["firms"]
+    yield "each firm's own numbers stand in its box", all(says in drawn[name]["shown"] for name, says in OWN.items())
+    yield "and are heard", "pays up to 9 to 12" in drawn["B1"]["says"]
+    whole = json.loads(page.text())
+    trades = {firm: [trade["name"] for trade in whole["trades"] if firm in (trade["seller"], trade["buyer"])] for firm in ("O1", "B1", "B2")}
+    for firm, names in trades.items():
+        worths = sorted(abs(worth(page, program, page.text(), firm, [name])) for name in names)
+        wanted = str(worths[0]) if worths[0] == worths[-1] else f"{worths[0]} to {worths[-1]}"
+        yield f"those of {firm} are what the program says of its trades alone", wanted in drawn[firm]["shown"]
+    page.click("#own")
+    drawn = page.drawn()["firms"]
+    yield "a button hides them", not any("pays" in firm["shown"] + firm["says"] for firm in drawn.values())
+    page.click("#own")
+    yield "and shows them again", "sells from 4" in page.drawn()["firms"]["O1"]["shown"]
 
 
 def tries_of_undo(page: Bench, program: str | None):
@@ -533,7 +556,7 @@ def tries_to_sign(page: Bench, program: str | None):
     yield "with what it has and would have", "has -1" in page.drawn()["firms"]["B1"]["shown"] and "then 0" in page.drawn()["firms"]["B1"]["shown"]
     page.press("1", "0")
     yield "a price is typed, and a chain blocks what is signed", judged(page).endswith("one other contract blocks it.") and page.focused() == "price:db1"
-    yield "the firms of the chain have what they would have", page.drawn()["firms"]["D"]["shown"] == "Dhas 1then 3/2" and page.drawn()["firms"]["B3"]["shown"] == "B3has 0then 1/2"
+    yield "the firms of the chain have what they would have", page.drawn()["firms"]["D"]["shown"].endswith("has 1then 3/2") and page.drawn()["firms"]["B3"]["shown"].endswith("has 0then 1/2")
     before = page.text()
     page.drag("#denominator", 0)
     page.press("Control+a", "2", "Tab")
@@ -995,7 +1018,7 @@ def tries_of_access(page: Bench):
     nodes = tree_of(page)
     names = names_in(nodes)
     yield "and so has what is signed", unnamed(nodes) == [] and "o1b1 is signed" in names and "Trade o1b1, from O1 to B1, at 7: signed" in names
-    yield "what a firm has and would have is told", "Firm O1: has 3, then 4" in names
+    yield "what a firm has and would have is told", any(name.startswith("Firm O1: has 3, then 4. It sells from 4") for name in names)
     page.click("#reason-claim")
     decided(page)
     nodes = tree_of(page)

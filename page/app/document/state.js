@@ -32,7 +32,7 @@ export const START = {
     mark: null, risen: null, selection: null,
     guess: null, ranges: null, path: null, judged: null, decided: null, reason: null, results: [], words: ["solve"], run: {state: "none"}, answer: null,
     supposed: {before: [], after: []}, compared: null, contributed: null,
-    view: {panel: "guess", mode: "guess", from: "guess", step: 0, ...AT_FIRST},
+    view: {panel: "guess", mode: "guess", from: "guess", step: 0, hasOwn: true, ...AT_FIRST},
 };
 
 /** The value, looked at in another way. */

@@ -37,23 +37,23 @@ function lanesAt(network, firm = null) {
 
 /**
  * The plan of a network, or of one firm and its neighbours: `{lanes, boxes, places, isClose}`, where `places` is a layout. `digits` is
- * how long numbers are at most, and `shape` one of those of the rooms.
+ * how long numbers are at most, `shape` one of those of the rooms, and `own` has what the document says of firms, by their names.
  */
-export function planOf(network, firm, digits, shape) {
+export function planOf(network, firm, digits, shape, own) {
     const trades = network.trades.map(({name, seller, buyer}) => [name, seller, buyer, tradeLabel(name)]);
-    const key = JSON.stringify([language(), firm, digits, shape, network.firms.map(({name}) => [name, firmLabel(name)]), trades]);
+    const key = JSON.stringify([language(), firm, digits, shape, network.firms.map(({name}) => [name, firmLabel(name), own.get(name)?.short]), trades]);
     if (!kept.has(key)) {
         if (kept.size >= MOST_KEPT) kept.delete(kept.keys().next().value);
-        kept.set(key, madePlan(network, firm, digits, shape));
+        kept.set(key, madePlan(network, firm, digits, shape, own));
     }
     return kept.get(key);
 }
 
-function madePlan(network, firm, digits, shape) {
+function madePlan(network, firm, digits, shape, own) {
     const lanes = lanesAt(network, firm), isClose = lanes.length > FEW || shape === "narrow";
     const near = new Set([firm, ...lanes.flatMap(({seller, buyer}) => [seller, buyer])]);
     const firms = [...new Set(network.firms.map(({name}) => name))].filter((name) => name !== "" && (firm === null || near.has(name)));
-    const boxes = firms.map((name) => ({id: name, name, ...boxSize(name, digits, isClose)}));
+    const boxes = firms.map((name) => ({id: name, name, ...boxSize(name, digits, isClose, own.get(name)?.short)}));
     const arrows = lanes.map((lane) => ({from: lane.seller, to: lane.buyer, size: isClose ? null : labelSize(lane, digits)}));
     if (boxes.length === 0) return {lanes, boxes, arrows, isClose, places: {width: 100, height: 100, centers: new Map(), arrows: []}};
     return {lanes, boxes, arrows, isClose, places: isClose ? closely(boxes, arrows, ROOMS[shape]) : layout(boxes, arrows, ROOM)};
@@ -81,11 +81,11 @@ function madeLabels({lanes, places, boxes, isClose}, digits, isNamed) {
 /** How much wider letters can be than they are reckoned: those of DejaVu Sans are. */
 const WIDER = 1.12;
 
-function boxSize(name, digits, isClose) {
+function boxSize(name, digits, isClose, own) {
     const number = "0".repeat(digits), below = isClose
         ? [`\u2717 ${say("word.none")}`, `\u2717 ${number}`] : [say("word.impossible"), say("word.best", {number})];
-    const widest = Math.max(widthOf(firmLabel(name), NAME), ...below.map((says) => widthOf(says, BELOW)));
-    return {width: widest * WIDER + 12, height: isClose ? 38 : 58};
+    const widest = Math.max(widthOf(firmLabel(name), NAME), ...below.map((says) => widthOf(says, BELOW)), isClose || !own ? 0 : widthOf(own, BELOW));
+    return {width: widest * WIDER + 12, height: isClose ? 38 : own ? 74 : 58};
 }
 
 /** The room for a name above a price. */

@@ -27,7 +27,7 @@ const SHOWN = ["document", "guess", "judged", "reason", "compared"];
 
 /** Draws what a value has to show. */
 export function showScene(value) {
-    const scene = sceneOf(value), key = JSON.stringify([scene.key, shapeNow(), value.view.firm, value.selection, [...scene.marks]]);
+    const scene = sceneOf(value), key = JSON.stringify([scene.key, shapeNow(), value.view.hasOwn, value.view.firm, value.selection, [...scene.marks]]);
     const isNew = drawnOf === null || drawnOf.key !== key || SHOWN.some((name) => drawnOf[name] !== value[name]);
     if (isNew) draw(scene, value);
     drawnOf = {key, ...Object.fromEntries(SHOWN.map((name) => [name, value[name]]))};
@@ -43,7 +43,7 @@ function isBehind(value) {
 
 function draw(scene, value) {
     const network = networkOf(value.document), stage = part("stage"), firm = neighbourhood(value);
-    const drawn = stageOf({...scene, network, firm, shape: shapeNow(), selection: scene.signs ? null : value.selection});
+    const drawn = stageOf({...scene, network, firm, hasOwn: value.view.hasOwn, shape: shapeNow(), selection: scene.signs ? null : value.selection});
     size = drawn;
     keepingFocus(stage, () => stage.replaceChildren(drawing(drawn.svg)));
     write("legend", legendOf(network, firm, scene));

@@ -2,6 +2,7 @@
 import {spanOf} from "../../draw/lanes.js";
 import {arrow, escaped, INK, NORMAL, smooth, tag, text, widthOf} from "../../draw/svg.js";
 import {firmLabel, tradeLabel} from "../../words/labels.js";
+import {ownOf} from "../../say/own.js";
 import {say} from "../../words/say.js";
 import {BELOW, labelPlaces, NAME, planOf, PRICE} from "./plan.js";
 
@@ -25,15 +26,16 @@ function digitsOf(stands, lines) {
  * `firms`, by name, or `{mood, below, says}` with what is to be said of a firm, `marks` the colours of trades with what they say,
  * `focus` the names of the firms that are spoken of, and `selection` what is chosen.
  */
-export function stageOf({network, firm, shape, stands, lines, marks, focus, selection}) {
+export function stageOf({network, firm, shape, stands, lines, marks, focus, selection, hasOwn}) {
     const digits = digitsOf(stands, [...lines.values()]);
-    const plan = planOf(network, firm, digits, shape), on = new Set(stands.on ?? []);
+    const own = new Map(hasOwn ? network.firms.map(({name}) => [name, ownOf(network, name)]).filter(([, said]) => said !== null) : []);
+    const plan = planOf(network, firm, digits, shape, own), on = new Set(stands.on ?? []);
     const lanes = plan.lanes.map((lane) => laneAt(lane, on, stands, marks, selection));
     const named = new Set(plan.lanes.filter((_, k) => lanes[k].isNamed)), labels = labelPlaces(plan, digits, (lane) => named.has(lane));
     const drawn = lanes.map((lane, k) => ({lane, svg: laneSvg(lane, plan.places.arrows[k].points, labels[k], plan.isClose)}));
     drawn.sort((one, other) => one.lane.rank - other.lane.rank);
     const isChosen = ({name}) => focus.has(name) || (selection?.kind === "firm" && selection.name === name);
-    const boxes = plan.boxes.map((box) => firmSvg(box, plan.places.centers.get(box.id), lines.get(box.name), isChosen(box), plan.isClose));
+    const boxes = plan.boxes.map((box) => firmSvg(box, plan.places.centers.get(box.id), lines.get(box.name), isChosen(box), plan.isClose, own.get(box.name)));
     const width = plan.places.width + 24, height = plan.places.height + 24;
     const whole = tag("g", {transform: "translate(12 12)"}, drawn.map(({svg}) => svg.line), boxes, drawn.map(({svg}) => svg.label));
     return {width, height, plan, svg: `<svg xmlns="http://www.w3.org/2000/svg" viewBox="0 0 ${width} ${height}">${whole}</svg>`};
@@ -113,14 +115,21 @@ function lineLabel(lane, {x, y}, ink) {
     return [tag("rect", {x: x - width / 2, y: y - 8, width, height: 16, rx: 3}), text(x, y + 4, says, {ink, weight: isOn ? "bold" : null})];
 }
 
-function firmSvg({name, width, height}, {x, y}, line, isChosen, isClose) {
+function firmSvg({name, width, height}, {x, y}, line, isChosen, isClose, own) {
     const mood = moodOf(line);
     const box = {x: x - width / 2, y: y - height / 2, width, height, rx: 6};
     const attributes = {class: `firm ${mood}${isChosen ? " chosen" : ""}`, "data-key": `firm:${name}`, "data-firm": name};
     const style = {size: BELOW, ink: INKS[mood] ?? BAD, weight: INKS[mood] ? null : "bold"};
-    const lines = line ? belowOf(line, isClose) : [], top = y + 4 - lines.length * HIGH / 2;
-    return tag("g", {...attributes, role: "button", tabindex: 0, "aria-label": firmSays(name, line)}, firmLabel(name) === name ? null : tag("title", {}, escaped(name)), tag("rect", box),
-        text(x, top, firmLabel(name), {size: NAME, weight: "bold"}), lines.map((says, k) => text(x, top + 1 + (k + 1) * HIGH, says, style)));
+    const lines = line ? belowOf(line, isClose) : [], has = own && !isClose ? [own.short] : [], top = y + 4 - (has.length + lines.length) * HIGH / 2;
+    const ownStyle = {size: BELOW, ink: OFF};
+    return tag("g", {...attributes, role: "button", tabindex: 0, "aria-label": own ? say("stage.firm_own", {says: firmSays(name, line), own: own.whole}) : firmSays(name, line)}, titleOf(name, own), tag("rect", box),
+        text(x, top, firmLabel(name), {size: NAME, weight: "bold"}), has.map((says) => text(x, top + 1 + HIGH, says, ownStyle)), lines.map((says, k) => text(x, top + 1 + (has.length + k + 1) * HIGH, says, style)));
+}
+
+/** What a pointer that rests on a box is told: the name behind a label, and all of the firm's own numbers. */
+function titleOf(name, own) {
+    const says = [...(firmLabel(name) === name ? [] : [name]), ...(own ? [own.whole] : [])].join(": ");
+    return says === "" ? null : tag("title", {}, escaped(says));
 }
 
 /** Whether a firm is content, objects, or has what is impossible, as a class; "unknown" where nothing is answered of it. */

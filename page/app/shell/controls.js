@@ -117,6 +117,7 @@ function bindScene(store) {
     on("zoom-in", () => store.act("looked", zoomIn(store.value.view)));
     on("zoom-out", () => store.act("looked", zoomOut(store.value.view)));
     on("zoom-fit", () => store.act("looked", {window: null}));
+    on("own", () => store.act("looked", {hasOwn: !store.value.view.hasOwn}));
     on("wide", () => store.act("looked", {isWide: part("wide").getAttribute("aria-pressed") !== "true"}));
     for (const [id, save] of [["picture-save", savePicture], ["picture-pixels", savePixels]]) on(id, () => save(store.value, part("verdict").textContent));
     on("objects", () => stepObjectors(store));

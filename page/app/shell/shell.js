@@ -28,6 +28,7 @@ export function showShell(value) {
     page.dataset.path = pathState(value);
     page.dataset.wide = `${isWide(value)}`;
     part("wide").setAttribute("aria-pressed", `${isWide(value)}`);
+    part("own").setAttribute("aria-pressed", `${view.hasOwn}`);
     able("undo", past.length > 0);
     able("redo", future.length > 0);
     showPanel(view.panel);

@@ -2,6 +2,7 @@
 export const PAGE = {
     page: {
         risen: "Das Dokument ist jetzt eines der Version {version}: eine frühere erlaubt weniger, als darin steht.",
+        own_numbers: "Eigene Zahlen",
         save_pixels: "als PNG", copy: "Kopieren", ranges_copy: "Spannen kopieren",
         address: "Adresse der Seite", all_firms: "Alle Firmen", answer: "Antworten", back: "Zurück",
         begun_forget: "Neu beginnen", begun_open: "Damit weitermachen",

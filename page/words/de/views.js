@@ -26,7 +26,13 @@ export const VIEWS = {
         signed_impossible: "{firm} {does}, was für diese Firma unmöglich ist.",
         signed_utility: "{firm} {does}: Der Nutzen ist {utility}.",
     },
+    own: {
+        from_to: "{low} bis {high}", sells: "verkauft ab {price}", pays: "zahlt bis {price}", makes: "macht es für {price}", most: "höchstens {count}",
+        worth: "{bundle}: {worth}", passes: "gibt eines weiter", costs: "mit Kosten von {price}", gains: "und bekommt {price} mehr", keeps: "behält es für {price}",
+        matches: "gibt weiter für {price}",
+    },
     stage: {
+        firm_own: "{says}. Die Firma: {own}",
         less: "Preis von {name} senken", more: "Preis von {name} erhöhen",
         firm: "Firma {name}", firm_says: "Firma {name}: {says}",
         firm_content: "Firma {name}, zufrieden mit einem Nutzen von {utility}",

@@ -2,6 +2,7 @@
 export const PAGE = {
     page: {
         risen: "The document is one of version {version} now: an earlier version allows less than it has.",
+        own_numbers: "Own numbers",
         save_pixels: "as PNG", copy: "Copy", ranges_copy: "Copy the ranges",
         address: "Address of the page", all_firms: "All firms", answer: "Answer", back: "Back",
         begun_forget: "Begin anew", begun_open: "Go on with it",

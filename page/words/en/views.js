@@ -21,7 +21,13 @@ export const VIEWS = {
         signed_impossible: "{firm} {does}, which is impossible for it.",
         signed_utility: "{firm} {does}: its utility is {utility}.",
     },
+    own: {
+        from_to: "{low} to {high}", sells: "sells from {price}", pays: "pays up to {price}", makes: "makes it for {price}", most: "at most {count}",
+        worth: "{bundle}: {worth}", passes: "passes one on", costs: "at a cost of {price}", gains: "and gets {price} more", keeps: "keeps it for {price}",
+        matches: "passes on for {price}",
+    },
     stage: {
+        firm_own: "{says}. It {own}",
         less: "Lower the price of {name}", more: "Raise the price of {name}",
         firm: "Firm {name}", firm_says: "Firm {name}: {says}",
         firm_content: "Firm {name}, content with a utility of {utility}",
