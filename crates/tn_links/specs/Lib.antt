@@ -1,0 +1,10 @@
+-- The files of definitions of this crate.
+pub mod Widths
+pub mod Links
+pub mod Flows
+pub mod Lots
+pub mod Near
+pub mod Laws
+pub mod Rounds
+pub mod RiseLemmas
+pub mod LotLemmas

@@ -1,0 +1,45 @@
+-- Links between nodes, and what their units gain.
+use Rattle.std.specs.Prelude.{◌≡◌, ◌≢◌, ℕ, ◌+◌, ◌-◌, ◌<◌, ◌≤◌, min, ℤ, pos, ◌+ℤ◌, ◌*ℤ◌, ◌≤ℤ◌, List, [], ◌∷◌, slice_get, Bool, true, ◌==◌, ◌&&◌, ◌||◌, Some}
+use Rattle.tn_base.specs.Arcs.{IsAtMost}
+use Rattle.tn_links.specs.declared.link.Link.{Link}
+use Rattle.tn_links.specs.declared.link.Step.{Step}
+use Rattle.tn_links.specs.Widths.{most_each, most_units}
+
+-- how many units the steps have
+abbrev pub room : List Step → ℕ
+room [] = 0
+room (step ∷ steps) = step.units + room steps
+
+-- what the first units of the steps add
+abbrev pub rise : List Step → ℕ → ℤ
+rise [] n = pos 0
+rise (step ∷ steps) n = step.each *ℤ pos (min n step.units) +ℤ rise steps (n - step.units)
+
+-- later units add no more
+abbrev pub AreFalling : List Step → Type 0
+AreFalling steps = (i k : ℕ) (a b : Step) → i < k → slice_get steps i ≡ Some a → slice_get steps k ≡ Some b
+    → b.each ≤ℤ a.each
+
+-- no unit adds much
+abbrev pub AreSlight : List Step → Type 0
+AreSlight steps = (i : ℕ) (step : Step) → slice_get steps i ≡ Some step → IsAtMost step.each most_each
+
+-- a link between two nodes, whose gain is concave
+pub record IsLink (nodes : ℕ) (link : Link) : Type 0 where
+  pub tail_inside : link.tail < nodes
+  pub head_inside : link.head < nodes
+  pub apart : link.tail ≢ link.head
+  pub back_within : link.back ≤ room link.steps.items
+  pub few_units : room link.steps.items ≤ most_units
+  pub falling : AreFalling link.steps.items
+  pub slight : AreSlight link.steps.items
+
+-- the two ends of a link are these two nodes
+abbrev pub joins : Link → ℕ → ℕ → Bool
+joins link u v = (link.tail == u && link.head == v) || (link.tail == v && link.head == u)
+
+-- no two links join the same two nodes
+pub record ArePlain (nodes : ℕ) (links : List Link) : Type 0 where
+  pub each : (j : ℕ) (link : Link) → slice_get links j ≡ Some link → IsLink nodes link
+  pub single : (i j u v : ℕ) (a b : Link) → slice_get links i ≡ Some a → slice_get links j ≡ Some b
+      → joins a u v ≡ true → joins b u v ≡ true → i ≡ j

@@ -1,0 +1,14 @@
+//! Links between nodes, whose flows gain by steps, and flows of greatest gain.
+#![tactic(auto)]
+
+mod laws;
+mod link;
+mod links;
+mod lots;
+mod push;
+mod settling;
+
+pub use laws::{cycles_gain_what_they_cost, labels_are_greatest};
+pub use link::{Link, Step};
+pub use links::Links;
+pub use settling::settle;

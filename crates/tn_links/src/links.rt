@@ -1,0 +1,119 @@
+//! Links, and those of each node.
+
+ghost use Rattle.std.specs.Prelude.{◌≡◌, ◌<◌, ◌≤◌, length, map, slice_get, Some, IfOk};
+ghost use Rattle.tn_links.specs.declared.link.Link.{Link};
+ghost use Rattle.tn_links.specs.LotLemmas.{node_near};
+ghost use Rattle.tn_links.specs.Links.{ArePlain, room};
+ghost use Rattle.tn_links.specs.Lots.{lot_cost};
+ghost use Rattle.tn_links.specs.Near.{AreListed, link_between, link_to, near_from};
+ghost use Rattle.tn_links.specs.Widths.{most_links, most_lot};
+
+use crate::link::Link;
+use std::alloc::Global;
+use tn_base::OutOfMemory;
+
+/// A link of a node, and its other end.
+#[derive(Clone, Copy)]
+pub(crate) struct Neighbour {
+    pub link: u32,
+    pub node: u32,
+}
+
+/// Links between so many nodes, of which no two join the same two nodes.
+#[derive(Drop)]
+pub struct Links {
+    pub(crate) nodes: u32,
+    pub(crate) links: Vec<Link>,
+    /// The links of each node.
+    near: Vec<Vec<Neighbour>>,
+    ghost plain: { ArePlain nodes links.items },
+    ghost few: { length links.items ≤ most_links },
+    ghost listed: { AreListed nodes links.items (map (λ list. list.items) near.items) },
+}
+
+/// The links of a node.
+fn neighbours(alloc: Global, links: &[Link], v: u32) -> Result<Vec<Neighbour>, OutOfMemory>
+    requires { length links.now ≤ most_links }
+    ensures { IfOk result (λ near. near.items ≡ near_from links.now 0 v) }
+{
+    let mut near = Vec::new(alloc);
+    for (j, link) in links.iter().enumerate() {
+        if link.tail == v {
+            near.push(Neighbour {
+                link: j as u32,
+                node: link.head,
+            })?;
+        } else if link.head == v {
+            near.push(Neighbour {
+                link: j as u32,
+                node: link.tail,
+            })?;
+        }
+    }
+    Ok(near)
+}
+
+/// The link by which a node is listed.
+fn link_to(near: &[Neighbour], v: u32) -> Option<u32>
+    ensures { result ≡ link_to near.now v }
+{
+    for one in near {
+        if one.node == v {
+            return Some(one.link);
+        }
+    }
+    None
+}
+
+impl Links {
+    /// These links between so many nodes. It fails only where memory runs out.
+    pub fn new(alloc: Global, nodes: u32, links: Vec<Link>) -> Result<Links, OutOfMemory>
+        requires plain { ArePlain nodes links.items }
+        requires few { length links.items ≤ most_links }
+        ensures { IfOk result (λ made. (made.nodes ≡ nodes) × (made.links.items ≡ links.items)) }
+    {
+        let mut near = Vec::new(alloc);
+        for v in 0..nodes {
+            near.push(neighbours(alloc, &links, v)?)?;
+        }
+        Ok(Links { nodes, links, near })
+    }
+
+    /// The link that joins two nodes, None where there is none.
+    pub(crate) fn between(&self, u: u32, v: u32) -> Option<u32>
+        requires { u < self.now.nodes }
+        ensures { result ≡ link_between self.now.links.items u v }
+    {
+        link_to(&self.near[u as usize], v)
+    }
+}
+
+impl Links {
+    /// How many links a node has.
+    pub(crate) fn degree(&self, v: u32) -> u32
+        requires { v < self.now.nodes }
+        ensures { result ≡ length (near_from self.now.links.items 0 v) }
+    {
+        self.near[v as usize].len() as u32
+    }
+
+    /// The other end of a node's link at a place of its list.
+    pub(crate) fn neighbour(&self, v: u32, k: u32) -> u32
+        requires inside { v < self.now.nodes }
+        requires below { k < length (near_from self.now.links.items 0 v) }
+        ensures { result ≡ node_near (near_from self.now.links.items 0 v) k }
+    {
+        let near = &self.near[v as usize];
+        near[k as usize].node
+    }
+
+    /// What a lot over a link from one of its ends costs, None where there is no room for it.
+    pub(crate) fn lot_cost(&self, j: u32, level: u32, lot: u32, from: u32) -> Option<i128>
+        requires inside { j < length self.now.links.items }
+        requires within { (link : Link) → slice_get self.now.links.items j ≡ Some link → level ≤ room link.steps.items }
+        requires small { lot ≤ most_lot }
+        ensures { (link : Link) → slice_get self.now.links.items j ≡ Some link → result ≡ lot_cost link level lot from }
+    {
+        self.links[j as usize].lot_cost(level, lot, from)
+    }
+}
