@@ -5,3 +5,4 @@ pub mod StepLemmas
 pub mod RoundLemmas
 pub mod LawLemmas
 pub mod GainLemmas
+pub mod SearchLemmas

@@ -153,19 +153,25 @@ begins_inside nodes arc between u [] w cost walk = (between u w cost walk).0
 begins_inside nodes arc between u (v ∷ vs) w cost walk =
     let two = walk_parts arc u v vs w cost walk in (between u v two.first two.first_is).0
 
+-- a negative cycle of listed nodes
+pub round_by : (nodes : ℕ) (arc : ℕ → ℕ → Option ℤ) (listed : List ℕ) (first : ℕ) (rest : List ℕ) (cost : ℤ)
+    → AreBetweenNodes nodes arc → listed ≡ first ∷ rest → cost <ℤ pos 0 → IsCycle arc first rest cost
+    → GoesRound nodes arc listed
+round_by nodes arc listed first rest cost between nodes_are negative cycle = record {
+  first = first;
+  rest = rest;
+  cost = cost;
+  nodes_are = nodes_are;
+  inside =
+      subst (All (λ v. v < nodes)) (sym nodes_are)
+      (All-cons (λ v. v < nodes) first rest (begins_inside nodes arc between first rest first cost cycle.walk)
+      (walk_inside nodes arc between first rest first cost cycle.walk));
+  negative = negative;
+  cycle = cycle;
+}
+
 -- a negative cycle that a search answers
 pub round_of : (nodes count : ℕ) (arc : ℕ → ℕ → Option ℤ) (listed : List ℕ) (cost : ℤ) (length : ℕ)
     → AreBetweenNodes nodes arc → IsNegative count arc listed cost length → GoesRound nodes arc listed
-round_of nodes count arc listed cost length between found = record {
-  first = found.first;
-  rest = found.rest;
-  cost = cost;
-  nodes_are = found.nodes_are;
-  inside =
-      subst (All (λ v. v < nodes)) (sym found.nodes_are)
-      (All-cons (λ v. v < nodes) found.first found.rest
-      (begins_inside nodes arc between found.first found.rest found.first cost found.cycle.walk)
-      (walk_inside nodes arc between found.first found.rest found.first cost found.cycle.walk));
-  negative = found.negative;
-  cycle = found.cycle;
-}
+round_of nodes count arc listed cost length between found =
+    round_by nodes arc listed found.first found.rest cost between found.nodes_are found.negative found.cycle

@@ -6,5 +6,7 @@ pub mod Lots
 pub mod Near
 pub mod Laws
 pub mod Rounds
+pub mod Shown
+pub mod ShownLemmas
 pub mod RiseLemmas
 pub mod LotLemmas

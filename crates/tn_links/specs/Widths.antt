@@ -24,3 +24,7 @@ most_level = 2 ^ 32 - 1
 -- no number of units of a link adds more than this, in size
 abbrev pub most_rise : ℕ
 most_rise = most_level * most_each
+
+-- labels farther from 0 than this are given up
+abbrev pub near_enough : ℕ
+near_enough = 10 ^ 26

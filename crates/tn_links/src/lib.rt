@@ -6,7 +6,9 @@ mod link;
 mod links;
 mod lots;
 mod push;
+mod searching;
 mod settling;
+mod shown;
 
 pub use laws::{cycles_gain_what_they_cost, labels_are_greatest};
 pub use link::{Link, Step};

@@ -1,11 +1,12 @@
 //! Links, and those of each node.
 
-ghost use Rattle.std.specs.Prelude.{◌≡◌, ◌<◌, ◌≤◌, length, map, slice_get, Some, IfOk};
+ghost use Rattle.std.specs.Prelude.{◌≡◌, ◌≢◌, ◌<◌, ◌≤◌, length, map, slice_get, Some, IfOk};
 ghost use Rattle.tn_links.specs.declared.link.Link.{Link};
 ghost use Rattle.tn_links.specs.LotLemmas.{node_near};
 ghost use Rattle.tn_links.specs.Links.{ArePlain, room};
 ghost use Rattle.tn_links.specs.Lots.{lot_cost};
 ghost use Rattle.tn_links.specs.Near.{AreListed, link_between, link_to, near_from};
+ghost use Rattle.tn_cycle.specs.Widths.{most_graph_nodes};
 ghost use Rattle.tn_links.specs.Widths.{most_links, most_lot};
 
 use crate::link::Link;
@@ -28,6 +29,7 @@ pub struct Links {
     near: Vec<Vec<Neighbour>>,
     ghost plain: { ArePlain nodes links.items },
     ghost few: { length links.items ≤ most_links },
+    ghost few_nodes: { nodes ≤ most_graph_nodes },
     ghost listed: { AreListed nodes links.items (map (λ list. list.items) near.items) },
 }
 
@@ -70,6 +72,7 @@ impl Links {
     pub fn new(alloc: Global, nodes: u32, links: Vec<Link>) -> Result<Links, OutOfMemory>
         requires plain { ArePlain nodes links.items }
         requires few { length links.items ≤ most_links }
+        requires few_nodes { nodes ≤ most_graph_nodes }
         ensures { IfOk result (λ made. (made.nodes ≡ nodes) × (made.links.items ≡ links.items)) }
     {
         let mut near = Vec::new(alloc);
@@ -89,6 +92,25 @@ impl Links {
 }
 
 impl Links {
+    /// How many links there are.
+    pub fn count(&self) -> u32
+        ensures { result ≡ length self.now.links.items }
+    {
+        self.links.len() as u32
+    }
+
+    /// The tail and the head of a link.
+    pub fn ends(&self, j: u32) -> (u32, u32)
+        requires { j < length self.now.links.items }
+        ensures ends { (link : Link) → slice_get self.now.links.items j ≡ Some link
+            → (result.0 ≡ link.tail) × (result.1 ≡ link.head) }
+        ensures inside { (result.0 < self.now.nodes) × (result.1 < self.now.nodes) }
+        ensures apart { result.0 ≢ result.1 }
+    {
+        let link = &self.links[j as usize];
+        (link.tail, link.head)
+    }
+
     /// How many links a node has.
     pub(crate) fn degree(&self, v: u32) -> u32
         requires { v < self.now.nodes }

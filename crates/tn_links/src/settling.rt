@@ -1,70 +1,66 @@
 //! Flows of greatest gain.
 
-ghost use Rattle.std.specs.Prelude.{◌≡◌, ◌≤◌, true, false};
+ghost use Rattle.std.specs.Prelude.{◌≡◌, true, false};
 ghost use Rattle.std.specs.Prelude.{◌<ℤ◌};
 ghost use Rattle.tn_cycle.specs.Answers.{AreLabels};
 ghost use Rattle.tn_links.specs.Flows.{IsKeptFlow, total_gain};
 ghost use Rattle.tn_links.specs.Laws.{IsGreatest};
 ghost use Rattle.tn_links.specs.Lots.{link_arc};
-ghost use Rattle.tn_links.specs.Widths.{most_lot};
 
 use crate::links::Links;
 use crate::lots::LotGraph;
 use crate::push::push_round;
+use crate::searching::send_lots;
 use tn_cycle::{Finder, Labels};
 
-/// A lot has at most so many units.
-const MOST_LOT: u32 = 4_194_304;
-
-/// Looks for labels that keep the graph with lots of so many units, and says whether there are some. Otherwise a lot is
-/// sent round a negative cycle.
-fn round(links: &Links, levels: &mut [u32], finder: &mut Finder, lot: u32) -> bool
+/// Looks for labels that keep the graph with lots of one unit, and says whether there are some. Otherwise a unit is sent
+/// round a negative cycle.
+fn round(links: &Links, levels: &mut [u32], finder: &mut Finder) -> bool
     requires fits { finder.old.nodes ≡ links.now.nodes }
     requires kept { IsKeptFlow links.now.links.items levels.old }
-    requires small { lot ≤ most_lot }
     ensures kept { IsKeptFlow links.now.links.items levels.new }
     ensures fits { finder.new.nodes ≡ links.now.nodes }
     ensures settled { result ≡ true
-        → AreLabels links.now.nodes (link_arc links.now.links.items levels.new lot) finder.new.labels }
+        → AreLabels links.now.nodes (link_arc links.now.links.items levels.new 1) finder.new.labels }
     ensures gained { result ≡ false
         → total_gain links.now.links.items levels.old <ℤ total_gain links.now.links.items levels.new }
 {
-    let found = finder.labels(&LotGraph { links, levels, lot });
+    let found = finder.labels(&LotGraph {
+        links,
+        levels,
+        lot: 1,
+    });
     match found {
         Labels::Feasible => true,
         Labels::Negative { .. } => {
-            push_round(links, levels, finder.listed(), lot);
+            push_round(links, levels, finder.listed(), 1);
             false
         }
     }
 }
 
-/// Sends lots of so many units round negative cycles until none is left.
-fn settle_lots(links: &Links, levels: &mut [u32], finder: &mut Finder, lot: u32)
+/// Sends units round negative cycles until none is left.
+fn settle_units(links: &Links, levels: &mut [u32], finder: &mut Finder)
     requires fits { finder.old.nodes ≡ links.now.nodes }
     requires kept { IsKeptFlow links.now.links.items levels.old }
-    requires small { lot ≤ most_lot }
     ensures kept { IsKeptFlow links.now.links.items levels.new }
     ensures fits { finder.new.nodes ≡ links.now.nodes }
-    ensures settled { AreLabels links.now.nodes (link_arc links.now.links.items levels.new lot) finder.new.labels }
+    ensures settled { AreLabels links.now.nodes (link_arc links.now.links.items levels.new 1) finder.new.labels }
 {
-    while !round(links, levels, finder, lot) {}
+    while !round(links, levels, finder) {}
 }
 
 /// Finds a kept flow of greatest gain, and labels that show it: they keep its graph with lots of one unit. It begins at
-/// any kept flow. The finder serves graphs of as many nodes as the links have, and reads the labels afterwards. Lots are
-/// large ones first, then half as large, down to one unit.
-pub fn settle(links: &Links, levels: &mut [u32], finder: &mut Finder)
+/// any kept flow. The finder serves graphs of as many nodes as the links have, and reads the labels afterwards; a second
+/// one of as many nodes has those that a search goes by. Lots are large ones first, then half as large, down to one unit.
+pub fn settle(links: &Links, levels: &mut [u32], finder: &mut Finder, before: &mut Finder)
     requires fits { finder.old.nodes ≡ links.now.nodes }
+    requires as_many { before.old.nodes ≡ links.now.nodes }
     requires kept { IsKeptFlow links.now.links.items levels.old }
     ensures kept { IsKeptFlow links.now.links.items levels.new }
     ensures settled { AreLabels links.now.nodes (link_arc links.now.links.items levels.new 1) finder.new.labels }
     ensures greatest { IsGreatest links.now.links.items levels.new }
 {
-    let mut lot = MOST_LOT;
-    while lot > 1 {
-        settle_lots(links, levels, finder, lot);
-        lot /= 2;
-    }
-    settle_lots(links, levels, finder, 1);
+    send_lots(links, levels, finder, before);
+    settle_units(links, levels, finder);
 }

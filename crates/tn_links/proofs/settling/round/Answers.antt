@@ -9,7 +9,7 @@ use Rattle.tn_links.proofs.settling.round.Goals as goal
 pub push_round-requires-clause-round : goal.push_round-requires-clause-round
 push_round-requires-clause-round c =
     let links = c.args.links.now in
-    let arc = link_arc links.links.items c.args.levels.now c.args.lot in
+    let arc = link_arc links.links.items c.args.levels.now 1 in
     subst (GoesRound links.nodes arc) (sym c.listed.ensures)
-    (round_of links.nodes _ arc _ _ _ (between-link_arc links.nodes links.links.items c.args.levels.now c.args.lot
+    (round_of links.nodes _ arc _ _ _ (between-link_arc links.nodes links.links.items c.args.levels.now 1
     links.plain) c.in-Negative.ensures.answer.0)

@@ -6,5 +6,5 @@ use Rattle.tn_links.proofs.settling.settle.Goals as goal
 pub returns-clause-greatest : goal.returns-clause-greatest
 returns-clause-greatest c =
     let links = c.args.links.now in
-    labels_are_greatest links.nodes links.links.items c.settle_lots-2.new.levels (label_in c.settle_lots-2.new.finder.labels)
-    links.plain c.settle_lots-2.ensures.kept c.settle_lots-2.ensures.settled.keeps
+    labels_are_greatest links.nodes links.links.items c.settle_units.new.levels (label_in c.settle_units.new.finder.labels)
+    links.plain c.settle_units.ensures.kept c.settle_units.ensures.settled.keeps

@@ -1,7 +1,7 @@
--- What shows that the rounds of `settle_lots` of `src/settling.rt` end.
+-- What shows that the rounds of `settle_units` of `src/settling.rt` end.
 use Rattle.std.proofs.Common.{◌≡◌, arith, false}
 use Rattle.tn_links.proofs.GainLemmas.{gain_rises}
-use Rattle.tn_links.proofs.settling.settle_lots.Goals as goal
+use Rattle.tn_links.proofs.settling.settle_units.Goals as goal
 
 pub loop-smaller : goal.loop-smaller
 loop-smaller c =

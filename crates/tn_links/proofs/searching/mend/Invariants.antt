@@ -1,15 +1,17 @@
--- What the rounds keep, and why they end.
-use Rattle.std.proofs.Common.{◌≡◌}
+-- What the searches keep, and why they end.
+use Rattle.std.proofs.Common.{◌≡◌, length}
 use Rattle.tn_links.specs.Flows.{IsKeptFlow}
 use Rattle.tn_links.proofs.GainLemmas.{gain_left}
-use Rattle.tn_links.proofs.settling.settle_lots.Given as goal
+use Rattle.tn_links.proofs.searching.mend.Given as goal
 
 abbrev pub invariant-loop : goal.invariant-loop
 invariant-loop l = record {
   fits : l.finder.nodes ≡ l.links.nodes;
+  as_many : l.before.nodes ≡ l.links.nodes;
+  labelled : length l.finder.labels ≡ l.links.nodes;
   kept : IsKeptFlow l.links.links.items l.levels;
 }
 
--- each round gains
+-- each lot that is sent gains
 abbrev pub decreases-loop : goal.decreases-loop
 decreases-loop l = gain_left l.links.links.items l.levels
