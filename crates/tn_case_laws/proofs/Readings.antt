@@ -256,6 +256,7 @@ unfolding extra_of claim_of named_claim claim_kind blocks_of claimed_contracts o
 extra_12_is = refl
 
 pub reading_12 : reading_of Replay Trees.bytes_12 ≡ Ok (deal_document asks_3 extra_12)
+unfolding named_claim claim_kind
 reading_12 =
     reading_by Replay Trees.bytes_12 Trees.top_12 deal_listed (deal_items (Trees.asks (negsuc 2))) (deal_firms asks_3)
     extra_12 Trees.tree_12 listed_12 firms_3 extra_12_is

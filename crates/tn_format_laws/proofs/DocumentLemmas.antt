@@ -21,6 +21,7 @@ use Rattle.tn_read_head.specs.Beside.{Stop, with_names}
 use Rattle.tn_read_head.specs.Listing.{limits_at, listed_of}
 use Rattle.tn_read_head.specs.Naming.{one_firm_name, one_trade}
 use Rattle.tn_read_firms.specs.Firms.{one_firm}
+use Rattle.tn_read_claims.specs.Claimed.{named_claim}
 use Rattle.tn_file.specs.declared.command.Command.{Command}
 use Rattle.tn_file.specs.declared.command.Command.TheVariants.{Check, Firms, Judge, Range, Replay, Session, Solve, Support, Test}
 use Rattle.tn_file.specs.Document.{DocumentData, content_of, document_in, document_of, extra_of, is_tested}
@@ -54,6 +55,7 @@ module _ (top other : Data) (alike : (key : List ℕ) → bytes_eq key (codes "v
     extra_agrees Test = same _
 
     tested_alike : (command : Command) → is_tested command top ≡ is_tested command other
+    unfolding named_claim
     tested_alike Check = refl
     tested_alike Firms = refl
     tested_alike Judge = refl
