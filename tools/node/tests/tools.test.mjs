@@ -2,7 +2,7 @@
 import assert from "node:assert/strict";
 import {spawnSync} from "node:child_process";
 import {createHash} from "node:crypto";
-import {mkdtempSync, readdirSync, readFileSync, symlinkSync} from "node:fs";
+import {mkdtempSync, readdirSync, readFileSync, symlinkSync, writeFileSync} from "node:fs";
 import {tmpdir} from "node:os";
 import {join} from "node:path";
 import {test} from "node:test";
@@ -99,5 +99,24 @@ test("the modules of page/ take nothing that node alone has", () => {
             for (const [, path] of text.matchAll(/(?:from|import) "([^"]*)"/g)) assert.match(path, /^\.\.?\//, name);
             assert.doesNotMatch(text, /\b(process|Buffer|require)\b/, name);
         }
+    }
+});
+
+test("without the module the page has at most 850,000 bytes", () => {
+    const page = readFileSync(join(HOME, "page/market.html"), "utf8"), [, module] = page.match(/<script type="text\/plain" id="program">([^<]*)</);
+    assert.ok(Buffer.byteLength(page) - module.length <= 850000);
+    assert.ok(module.length > 100000);
+});
+
+test("the tools call firms and trades as their notes say", {skip}, async () => {
+    const note = {en: "the bicycle", de: "das Fahrrad"}, firms = [{name: "S", kind: "table", rows: [[["a"], -5]], note: "Frau M\u00fcller"}, {name: "B", kind: "table", rows: [[["a"], 9]]}];
+    const folder = mkdtempSync(join(tmpdir(), "tools-")), file = join(folder, "labelled.json");
+    writeFileSync(file, JSON.stringify({version: 1, firms, trades: [{name: "a", seller: "S", buyer: "B", note}]}));
+    const answer = await ask(["solve"], readFileSync(file, "utf8"));
+    for (const tool of ["explain", "draw"]) {
+        const {status, stdout} = run(tool, [file], answer);
+        assert.equal(status, 0);
+        assert.match(stdout, /Frau M\u00fcller/);
+        assert.match(stdout, /the bicycle/);
     }
 });
