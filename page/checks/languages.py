@@ -141,5 +141,5 @@ def tries_of_access(page: bench.Bench, address: str):
     nodes = bench.tree_of(page)
     names = bench.names_in(nodes)
     yield f"all that is pressed or filled in has a German name {bench.unnamed(nodes)}", bench.unnamed(nodes) == [] and {"Sprache", "Preis von o1d", "o1d ist aktiv"} <= set(names)
-    yield "firms and trades are told", "Firma D widerspricht: Ihr Nutzen ist 0, und sie könnte 1 haben" in names and "Geschäft o1d, von O1 an D, für 10: aktiv" in names
+    yield "firms and trades are told", any(name.startswith("Firma D widerspricht: Ihr Nutzen ist 0, und sie könnte 1 haben") for name in names) and "Geschäft o1d, von O1 an D, für 10: aktiv" in names
     page.again(address)

@@ -178,6 +178,6 @@ def tries_of_access(page: bench.Bench):
     nodes = bench.tree_of(page)
     names = bench.names_in(nodes)
     yield f"all of a what-if has a name {bench.unnamed(nodes)}", bench.unnamed(nodes) == [] and {"D is there", "o1b1, from O1 to B1, is admitted"} <= set(names)
-    yield "what a firm has before and after is told", any(name.startswith("Firm D: a utility of ") and name.endswith(" before, away after") for name in names)
+    yield "what a firm has before and after is told", any(name.startswith("Firm D: a utility of ") and " before, away after" in name for name in names)
     yield "what comes of it is told", any("the worths sum to 8 in place of 10" in name for name in names)
     page.click("#tab-guess")
