@@ -566,6 +566,7 @@ def tries_to_sign(page: Bench, program: str | None):
     page.drag("#denominator", 0)
     page.press("Control+a", "1", "Tab")
     yield "a denominator at which a price isn't whole is refused", "isn't whole" in page.says("denominator-says") and json.loads(page.text())["outcome"]["over"] == 2
+    yield "and stays where it was typed", page.value("document.getElementById('denominator').value") == "1"
     page.click("#undo")
     page.click("#undo")
     yield "all that is taken back", page.text() == before and judged(page).endswith("one other contract blocks it.")

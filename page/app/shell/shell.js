@@ -98,7 +98,7 @@ function showMode(value) {
     part("wonder").setAttribute("aria-pressed", `${value.view.hasReason}`);
     for (const id of ["wonder", "sign-guess"]) able(id, hasArrangement(networkOf(value.document)));
     const field = part("denominator");
-    if (field !== document.activeElement) field.value = String(over);
+    if (field !== document.activeElement && field.getAttribute("aria-invalid") !== "true") field.value = String(over);
 }
 
 /** The plain field has the beginning of a document that is too long for the editor. */
