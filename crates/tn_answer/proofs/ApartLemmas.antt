@@ -14,7 +14,7 @@ use Rattle.tn_said.specs.Faults.{fault_number}
 use Rattle.tn_said.specs.declared.place.PlaceStep.{PlaceStep}
 use Rattle.tn_said.specs.declared.place.PlaceStep.TheVariants.{Key, Index, Trade}
 use Rattle.tn_said.specs.declared.place.Word.{Word}
-use Rattle.tn_said.specs.declared.place.Word.TheVariants.{Version, Firms, Trades, Arrangement, Outcome, Claim, Note, Edits, Name, Seller, Buyer, Kind, Rows, Amounts, Sets, From, Values, Costs, Gains, Keep, Pairs, On, Prices, Over, Contracts, Answer, Surplus as SurplusWord, Firm, Bundle, Gain, X, Y, At, Nodes, Cost, Keeps, Plan}
+use Rattle.tn_said.specs.declared.place.Word.TheVariants.{Version, Firms, Trades, Arrangement, Outcome, Claim, Note, Edits, Name, Seller, Buyer, Kind, Rows, Amounts, Sets, From, Values, Costs, Gains, Keep, Pairs, On, Prices, Over, Contracts, Answer, Surplus as SurplusWord, Firm, Bundle, Gain, X, Y, At, Nodes, Cost, Keeps, Plan, Units, Bought, Sold}
 use Rattle.tn_said.specs.declared.reason.Reason.{Reason}
 use Rattle.tn_said.specs.declared.reason.Reason.TheVariants.{Impossible as ImpossibleIs, Better as BetterIs, Possible, Surplus as SurplusIs, Gain as GainIs, Exchange, Holds, Arc, Cost as CostIs, Contract as ContractIs, Over as OverIs, Price, Empty, Signed, Choice, Shares, Balance, Whole}
 use Rattle.tn_said.specs.declared.said.Fault.{Fault}
@@ -119,7 +119,8 @@ same_kind first second e = sym (kind_back first) ∙ ap (λ n. get_or kinds n No
 words : List Word
 words = Version ∷ Firms ∷ Trades ∷ Arrangement ∷ Outcome ∷ Claim ∷ Note ∷ Edits ∷ Name ∷ Seller ∷ Buyer ∷ Kind ∷ Rows ∷
     Amounts ∷ Sets ∷ From ∷ Values ∷ Costs ∷ Gains ∷ Keep ∷ Pairs ∷ On ∷ Prices ∷ Over ∷ Contracts ∷ Answer ∷
-    SurplusWord ∷ Firm ∷ Bundle ∷ Gain ∷ X ∷ Y ∷ At ∷ Nodes ∷ Cost ∷ Keeps ∷ Plan ∷ []
+    SurplusWord ∷ Firm ∷ Bundle ∷ Gain ∷ X ∷ Y ∷ At ∷ Nodes ∷ Cost ∷ Keeps ∷ Plan ∷ Units ∷
+    Bought ∷ Sold ∷ []
 
 abbrev word_of : List ℕ → Option Word
 word_of text = find (λ word. bytes_eq text (word_text word)) words

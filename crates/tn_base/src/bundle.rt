@@ -7,7 +7,7 @@ ghost use Rattle.tn_base.specs.Firm.{net};
 use std::marker::Model;
 
 /// A set of positions 0 to 63. Contracts see the number whose binary digits are its members.
-#[derive(Clone, Copy, Debug, PartialEq, Eq)]
+#[derive(Clone, Copy, PartialEq, Eq)]
 pub struct Bundle(u64);
 
 impl Model for Bundle {

@@ -6,7 +6,7 @@ ghost use Rattle.tn_base.specs.Table.{buys_of};
 use crate::bundle::Bundle;
 
 /// On which side of a trade a firm stands.
-#[derive(Clone, Copy, Debug, PartialEq, Eq)]
+#[derive(Clone, Copy, PartialEq, Eq)]
 pub enum Side {
     /// The firm buys the trade.
     Buy,

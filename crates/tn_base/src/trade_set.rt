@@ -46,6 +46,16 @@ impl<const W: usize> Eq for TradeSet<W> {
     ghost laws = { nat_eq_equiv };
 }
 
+impl TradeSet<1> {
+    /// The set of trades below 64 with this number.
+    #[tactic(auto, unfolding(crate::specs::Limbs::joined))]
+    pub fn from_bits(bits: u64) -> TradeSet<1>
+        ensures { result ≡ bits }
+    {
+        TradeSet { limbs: [bits] }
+    }
+}
+
 impl<const W: usize> TradeSet<W> {
     /// The set of no trade.
     pub fn empty() -> TradeSet<W>

@@ -19,9 +19,9 @@ ghost use Rattle.tn_said.specs.declared.part.Part.{Part};
 use crate::exchange::positions_in;
 use crate::replayed::Replayed;
 use std::alloc::Global;
-use tn_base::{Bundle, OutOfMemory};
+use tn_base::{Bundle, OutOfMemory, TradeSet};
 use tn_firm::RawFirm;
-use tn_model::{Ends, own};
+use tn_model::{Ends, bundle_of};
 use tn_said::{Part, Parts, Reason};
 
 /// The weight of a part of firm `f`, 0 for a part of another one.
@@ -234,29 +234,12 @@ fn first_unbalanced(ends: &[Ends], plan: &Parts) -> Option<u32>
     None
 }
 
-/// The bundle that firm `f`, which has `n` trades, has of a set of trades.
-#[tactic(auto, unfolding(tn_base::specs::Sets::set_of))]
-fn bundle_of(ends: &[Ends], on: Bundle, f: u32, n: u32) -> Bundle
-    requires few_trades { length ends.now ≤ most_planned_trades }
-    requires few { n ≤ most_own }
-    requires placed { (k : ℕ) → k < n → own ends.now f k < length ends.now }
-    ensures { result ≡ part ends.now f n on }
-{
-    let mut bundle = Bundle::empty();
-    for k in 0..n {
-        if on.has(own(ends, f, k)) {
-            bundle = bundle.toggle(k);
-        }
-    }
-    bundle
-}
-
 /// The surplus of a set of trades, None where a firm's bundle is impossible.
-fn surplus_at(firms: &[RawFirm], ends: &[Ends], on: Bundle) -> Option<i128>
+fn surplus_at(firms: &[RawFirm], ends: &[Ends], on: &TradeSet<1>) -> Option<i128>
     requires few_firms { length firms.now ≤ most_firms }
     requires few_trades { length ends.now ≤ most_planned_trades }
     requires network { IsNetwork (map raw_firm_of firms.now) ends.now }
-    ensures surplus { result ≡ surplus_of (map raw_firm_of firms.now) ends.now on }
+    ensures surplus { result ≡ surplus_of (map raw_firm_of firms.now) ends.now on.now }
     ensures small { IfSome result (λ surplus. IsAtMost surplus most_number) }
 {
     let mut surplus = 0;
@@ -296,10 +279,9 @@ fn first_whole(firms: &[RawFirm], ends: &[Ends], over: i128, worth: i128) -> Opt
     ensures small { IfSome result (λ found. IsAtMost found.1 most_number) }
 {
     for bits in 0..1u64 << ends.len() {
-        let on = Bundle::from_bits(bits);
-        if let Some(surplus) = surplus_at(firms, ends, on) {
+        if let Some(surplus) = surplus_at(firms, ends, &TradeSet::from_bits(bits)) {
             if is_as_great(over, surplus, worth) {
-                return Some((on, surplus));
+                return Some((Bundle::from_bits(bits), surplus));
             }
         }
     }

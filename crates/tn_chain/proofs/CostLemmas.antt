@@ -1,28 +1,24 @@
 -- The costs of the reduced graph, as they are read and written.
-use Rattle.std.proofs.Common.{◌≡◌, ℕ, ◌+◌, ◌^◌, ◌<◌, ◌≤◌, Bool, true, false, if◌then◌else◌, List, [], ◌∷◌, ◌++◌, length, get_or, map, slice_get, Option, Some, None, option_map, refl, sym, ap, ap₂, ◌∙◌, subst, arith, inl, inr, ℤ}
-use Rattle.std.specs.Prelude.{option_and_then, is_some, IfSome}
-use Rattle.std.proofs.lemmas.Bool.{cases_eq, cases_lt}
+use Rattle.std.proofs.Common.{◌≡◌, ℕ, ◌+◌, ◌^◌, ◌<◌, ◌≤◌, if◌then◌else◌, List, [], ◌∷◌, ◌++◌, length, map, slice_get, Option, Some, None, option_map, refl, sym, ap, ◌∙◌, subst, arith, inl, inr, ℤ}
+use Rattle.std.specs.Prelude.{option_and_then, IfSome}
+use Rattle.std.proofs.lemmas.Bool.{cases_lt}
 use Rattle.std.proofs.lemmas.Int.{ints}
-use Rattle.std.proofs.lemmas.List.{length-append, get_or_append_left}
-use Rattle.std.proofs.lemmas.Option.{same_Some, slice_get-map, slice_get_within, get_or_from_slice_get}
+use Rattle.std.proofs.lemmas.Option.{same_Some, slice_get-map, slice_get_within}
 use Rattle.tn_base.specs.Arcs.{IsAtMost, AreSmall}
 use Rattle.tn_base.specs.Widths.{most_cost}
 use Rattle.tn_chain.specs.Limits.{most_reduced_cost}
-use Rattle.tn_base.specs.Sets.{has, meet}
+use Rattle.tn_base.specs.Sets.{has}
 use Rattle.tn_base.specs.Firm.{Firm}
 use Rattle.tn_model.specs.declared.ends.Ends.{Ends}
 use Rattle.tn_model.specs.declared.contract.Contract.{Contract}
 use Rattle.tn_model.specs.Network.{IsNetwork}
 use Rattle.tn_market.specs.Graph.{loss, exchange_arc}
-use Rattle.tn_market.specs.Limits.{IsOutcomeOf}
-use Rattle.tn_market.specs.Signed.{is_signed, signed_price, signed_bundle}
 use Rattle.tn_market.specs.Reduced.{reduced, reduced_firms, reduced_arc}
 use Rattle.tn_market.proofs.GraphLemmas.{arc_within}
 use Rattle.tn_graph.specs.Blocks.{CostBlocks, arcs_of}
 use Rattle.tn_graph.specs.BlockLemmas.{arcs_of-between}
 use Rattle.tn_graph.specs.Layout.{IsLaidOut}
-use Rattle.tn_graph.specs.Reading.{IsWithoutArcs, IsCostWritten, IsExchangeGraph}
-use Rattle.tn_residual.specs.Held.{contract_price}
+use Rattle.tn_graph.specs.Reading.{IsWithoutArcs, IsExchangeGraph}
 use Rattle.tn_outcome_laws.proofs.CompletionLemmas.{reduced_is}
 use Rattle.tn_chain.specs.Moves.{arc_move, AreWritten}
 use Rattle.tn_chain.proofs.MoveLemmas.{arc_of_move, move_cost, move_is}

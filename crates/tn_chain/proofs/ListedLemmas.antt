@@ -1,7 +1,7 @@
 -- The nodes that a graph of blocks lists beside one: null beside each trade, each trade beside null, and each node with
 -- which an arc may be.
-use Rattle.std.specs.Prelude.{nat_lt, not}
-use Rattle.std.proofs.Common.{◌≡◌, ℕ, ◌+◌, ◌<◌, ◌≤◌, Bool, true, false, if◌then◌else◌, get_or, Some, refl, sym, ap, ◌∙◌, arith, inl, inr}
+use Rattle.std.specs.Prelude.{not}
+use Rattle.std.proofs.Common.{◌≡◌, ℕ, ◌+◌, ◌<◌, ◌≤◌, Bool, true, if◌then◌else◌, get_or, Some, sym, ap, ◌∙◌, arith, inl, inr}
 use Rattle.std.proofs.lemmas.Bool.{lt-ltb, le-ltb}
 use Rattle.tn_graph.specs.declared.spot.Spot.{Spot}
 use Rattle.tn_graph.specs.Blocks.{CostBlocks, spot_at, place_of, node_in, listed_count, listed_at}

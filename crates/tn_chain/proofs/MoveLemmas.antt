@@ -1,5 +1,5 @@
 -- The arcs of the reduced graph, read from the ends of trades.
-use Rattle.std.proofs.Common.{◌≡◌, ◌≢◌, ℕ, ◌*◌, ◌^◌, ◌<◌, ◌≤◌, Bool, true, false, not, ◌==◌, ◌&&◌, if◌then◌else◌, List, length, map, slice_get, Option, Some, None, option_map, refl, suc, [], ◌∷◌, sym, ap, ap₂, ◌∙◌, subst, arith, inl, inr, ℤ, ◌+ℤ◌, ◌*ℤ◌, neg_ℤ}
+use Rattle.std.proofs.Common.{◌≡◌, ◌≢◌, ℕ, ◌*◌, ◌^◌, ◌<◌, ◌≤◌, Bool, true, false, not, ◌==◌, ◌&&◌, if◌then◌else◌, List, length, map, slice_get, Option, Some, None, option_map, refl, suc, [], ◌∷◌, sym, ap, ap₂, ◌∙◌, subst, arith, ℤ, ◌+ℤ◌, ◌*ℤ◌, neg_ℤ}
 use Rattle.std.specs.Prelude.{option_and_then, All}
 use Rattle.std.proofs.lemmas.Int.{ints}
 use Rattle.std.proofs.lemmas.Nat.{pow_pos, mul-le}

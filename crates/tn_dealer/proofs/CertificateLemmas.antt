@@ -18,6 +18,7 @@ use Rattle.tn_dealer.specs.declared.pair.Pair.{Pair}
 use Rattle.tn_dealer.specs.Pairs.{matched_worth, IsOwnPair}
 use Rattle.tn_dealer.specs.Certificates.{bound_of, KeepsPairs, KeepsAt, KeepsBeside, TakesAt, MayTake}
 use Rattle.tn_dealer.specs.Costs.{AreCosts, cost_at, far, place_of_pair}
+use Rattle.tn_dealer.proofs.CostLemmas.{listed_at, listed_cost}
 use Rattle.tn_firm_laws.specs.Worths.{IsWorth}
 use Rattle.tn_dealer.specs.WorthLemmas.{AreOwnPairs, Paired, own_rest, matched_left, matched_right, matched_from, matched_none, matched_empty}
 use Rattle.tn_dealer.specs.WithinLemmas.{matched_within}
@@ -374,10 +375,10 @@ taken_more count buys pairs costs own are x cost next next_cost (inl same) worth
     subst (λ (z : ℕ). IsWorth (matched_worth pairs) z (neg_ℤ next_cost)) (sym same.0)
     (subst (λ (z : ℤ). IsWorth (matched_worth pairs) x (neg_ℤ z)) (sym same.1) worth)
 taken_more count buys pairs costs own are x cost next next_cost (inr some) worth =
-    let listed = are.only some.buy some.sell some.buy_near some.sell_near some.takes.near in
+    let listed = listed_at pairs costs are some.buy some.sell some.buy_near some.sell_near some.takes.near in
     taken_listed count buys pairs own listed.at listed.pair listed.is x cost next next_cost
     (takes_pair listed.pair (cost_at costs some.buy some.sell) some.buy some.sell x cost next next_cost listed.same_buy
-    listed.same_sell listed.same_cost some.takes) worth
+    listed.same_sell (listed_cost pairs costs are some.buy some.sell listed) some.takes) worth
 
 pub taken_small : (count buys : ℕ) (pairs : List Pair) (costs : List ℤ) → AreOwnPairs count buys pairs
     → AreCosts pairs costs
@@ -390,13 +391,13 @@ taken_small count buys pairs costs own are x cost next next_cost done before (in
     let e = same.1 in
     record { low = omega (arith, ints, p, e); high = omega (arith, ints, q, e) }
 taken_small count buys pairs costs own are x cost next next_cost done before (inr some) =
-    let listed = are.only some.buy some.sell some.buy_near some.sell_near some.takes.near in
+    let listed = listed_at pairs costs are some.buy some.sell some.buy_near some.sell_near some.takes.near in
     let small = (own listed.at listed.pair listed.is).small in
     let p = before.low in
     let q = before.high in
     let r = small.low in
     let s = small.high in
-    let is = listed.same_cost in
+    let is = listed_cost pairs costs are some.buy some.sell listed in
     let e = some.takes.cost_is in
     record { low = omega (arith, ints, p, r, e, is); high = omega (arith, ints, q, s, e, is) }
 

@@ -1,14 +1,16 @@
 -- The costs of pairs, entered one after another.
-use Rattle.std.proofs.Common.{◌≡◌, ◌≢◌, ℕ, ◌+◌, ◌*◌, ◌<◌, ◌≤◌, sym, ap, ◌∙◌, subst, arith, inl, inr, List, get_or, replicate, Some, ℤ, pos}
-use Rattle.std.specs.Prelude.{◌<ℤ◌, slice_get, set}
+use Rattle.std.proofs.Common.{◌≡◌, ◌≢◌, ℕ, suc, ◌+◌, ◌*◌, ◌<◌, ◌==◌, ◌||◌, Bool, true, refl, sym, ap, ◌∙◌, subst, arith, inl, inr, List, [], ◌∷◌, length, take, get_or, replicate, Some, ℤ, pos}
+use Rattle.std.specs.Prelude.{◌<ℤ◌, slice_get, set, All}
+use Rattle.std.specs.List.{list_any}
 use Rattle.std.proofs.lemmas.Int.{ints}
-use Rattle.std.proofs.lemmas.Bool.{cases_eq}
-use Rattle.std.proofs.lemmas.Option.{same_Some}
-use Rattle.std.proofs.lemmas.List.{length-replicate, length-set, get_or-replicate, get_or-set_same, get_or-set_other}
+use Rattle.std.proofs.lemmas.Bool.{cases_Bool, cases_eq, eq-eqb, eqb-true, and_from, and_parts, or_right, false≢true}
+use Rattle.std.proofs.lemmas.Option.{same_Some, slice_get_within, get_or_from_slice_get}
+use Rattle.std.proofs.lemmas.List.{length-replicate, length-set, get_or-replicate, get_or-set_same, get_or-set_other, take_all}
+use Rattle.std.proofs.lemmas.List.Elements.{All-get_or}
+use Rattle.std.proofs.lemmas.List.Folds.{list_any_kept, list_any_more}
 use Rattle.tn_dealer.specs.declared.pair.Pair.{Pair}
 use Rattle.tn_dealer.specs.Pairs.{AreUnrepeated, IsNear}
-use Rattle.tn_dealer.specs.Costs.{AreCostsBelow, cost_at, far, place_of_pair}
-use Rattle.tn_dealer.specs.WorthLemmas.{AreOwnPairs}
+use Rattle.tn_dealer.specs.Costs.{AreCosts, AreCostsBelow, cost_at, far, is_of, place_of_pair}
 use Rattle.tn_market.specs.Widths.{most_own}
 
 pub place_inside : (buy sell : ℕ) → buy < most_own → sell < most_own → place_of_pair buy sell < most_own * most_own
@@ -31,14 +33,56 @@ costs_none pairs = record {
       absurd (omega (arith, ints, near, is));
 }
 
--- own pairs are near
-pub all_near : (count buys : ℕ) (pairs : List Pair) → count ≤ most_own → AreOwnPairs count buys pairs
-    → (j : ℕ) (pair : Pair) → slice_get pairs j ≡ Some pair → IsNear pair
-all_near count buys pairs few own j pair is =
-    let here = own j pair is in
-    let p = here.purchase in
-    let q = here.sale in
-    record { buy = omega (arith, few, p); sell = omega (arith, few, q) }
+-- pairs that are near are so at each place
+pub near_at : (pairs : List Pair) → All IsNear pairs → (j : ℕ) (pair : Pair) → slice_get pairs j ≡ Some pair
+    → IsNear pair
+near_at pairs all j pair is = subst IsNear (get_or_from_slice_get pairs j pair pair is)
+    (All-get_or IsNear pairs j pair (slice_get_within pairs j pair is) all)
+
+-- the place of a pair with this purchase and this sale
+pub record IsListed (pairs : List Pair) (buy sell : ℕ) : Type 0 where
+  pub at : ℕ
+  pub pair : Pair
+  pub is : slice_get pairs at ≡ Some pair
+  pub same_buy : pair.buy ≡ buy
+  pub same_sell : pair.sell ≡ sell
+
+listed_in : (buy sell : ℕ) (pairs : List Pair) → list_any (is_of buy sell) pairs ≡ true → IsListed pairs buy sell
+listed_in buy sell [] any = absurd (false≢true any)
+listed_in buy sell (pair ∷ pairs) any = elim (cases_Bool (is_of buy sell pair)) [
+  | inl here ↦
+      let both = and_parts (pair.buy == buy) (pair.sell == sell) here in
+      record {
+        at = 0;
+        pair = pair;
+        is = refl;
+        same_buy = eqb-true pair.buy buy both.0;
+        same_sell = eqb-true pair.sell sell both.1;
+      }
+  | inr not_here ↦
+      let later = listed_in buy sell pairs (sym (ap (λ (b : Bool). b || list_any (is_of buy sell) pairs) not_here) ∙ any)
+      in
+      record {
+        at = suc later.at;
+        pair = later.pair;
+        is = later.is;
+        same_buy = later.same_buy;
+        same_sell = later.same_sell;
+      }
+]
+
+-- what isn't far is the cost of a pair
+pub listed_at : (pairs : List Pair) (costs : List ℤ) → AreCosts pairs costs → (buy sell : ℕ) → buy < most_own
+    → sell < most_own → cost_at costs buy sell <ℤ far → IsListed pairs buy sell
+listed_at pairs costs are buy sell p q low = listed_in buy sell pairs
+    (sym (ap (list_any (is_of buy sell)) (take_all (length pairs) pairs (omega arith))) ∙ are.only buy sell p q low)
+
+pub listed_cost : (pairs : List Pair) (costs : List ℤ) → AreCosts pairs costs → (buy sell : ℕ)
+    → (listed : IsListed pairs buy sell) → listed.pair.cost ≡ cost_at costs buy sell
+listed_cost pairs costs are buy sell listed =
+    sym (are.each listed.at listed.pair (slice_get_within pairs listed.at listed.pair listed.is) listed.is)
+    ∙ ap (λ (b : ℕ). cost_at costs b listed.pair.sell) listed.same_buy
+    ∙ ap (cost_at costs buy) listed.same_sell
 
 -- with one more pair
 pub costs_more : (pairs : List Pair) (k : ℕ) (pair : Pair) (costs : List ℤ) → AreUnrepeated pairs
@@ -66,27 +110,16 @@ costs_more pairs k pair costs different is near before = record {
     ]
   ];
   only = λ buy sell p q low. elim (cases_eq (place_of_pair buy sell) (place_of_pair pair.buy pair.sell)) [
-    | inl e ↦ record {
-      at = k;
-      before = omega arith;
-      pair = pair;
-      is = is;
-      same_buy = sym (one_buy buy sell pair.buy pair.sell q (near k pair is).sell e);
-      same_sell = sym (one_sell buy sell pair.buy pair.sell q (near k pair is).sell e);
-      same_cost = sym (ap (λ (n : ℕ). get_or (set costs (place_of_pair pair.buy pair.sell) pair.cost) n (pos 0)) e ∙ there);
-    }
-    | inr apart ↦
-        let listed = before.only buy sell p q (subst (λ (z : ℤ). z <ℤ far) (elsewhere buy sell apart) low) in
-        let earlier = listed.before in
-        record {
-          at = listed.at;
-          before = omega (arith, earlier);
-          pair = listed.pair;
-          is = listed.is;
-          same_buy = listed.same_buy;
-          same_sell = listed.same_sell;
-          same_cost = listed.same_cost ∙ sym (elsewhere buy sell apart);
-        }
+    | inl e ↦
+        let same_buy = sym (one_buy buy sell pair.buy pair.sell q (near k pair is).sell e) in
+        let same_sell = sym (one_sell buy sell pair.buy pair.sell q (near k pair is).sell e) in
+        list_any_more (is_of buy sell) pairs k pair (slice_get_within pairs k pair is)
+        ∙ or_right (list_any (is_of buy sell) (take k pairs)) (is_of buy sell (get_or pairs k pair))
+        (ap (is_of buy sell) (get_or_from_slice_get pairs k pair pair is)
+        ∙ and_from (pair.buy == buy) (pair.sell == sell) (eq-eqb pair.buy buy same_buy)
+        (eq-eqb pair.sell sell same_sell))
+    | inr apart ↦ list_any_kept (is_of buy sell) pairs k
+        (before.only buy sell p q (subst (λ (z : ℤ). z <ℤ far) (elsewhere buy sell apart) low))
   ];
 }
   where

@@ -1,14 +1,14 @@
 -- What is tested of two lists of numbers holds however long the path is.
-use Rattle.std.proofs.Common.{◌≡◌, ℕ, ◌<◌, Bool, true, false, not, if◌then◌else◌, refl, sym, ap, ◌∙◌, arith, inl, inr, List, Option, Some, None, ℤ, pos, neg_ℤ, ◌+ℤ◌, ◌-ℤ◌}
+use Rattle.std.proofs.Common.{◌≡◌, ℕ, Bool, true, false, not, if◌then◌else◌, refl, sym, ap, arith, List, Option, Some, None, ℤ, pos, ◌+ℤ◌, ◌-ℤ◌}
 use Rattle.std.specs.Prelude.{◌≤ℤ◌, ◌<ℤ◌, int_lt}
 use Rattle.std.proofs.lemmas.Int.{ints}
-use Rattle.std.proofs.lemmas.Bool.{cases_Bool}
 use Rattle.tn_base.specs.Arcs.{IsAtMost}
-use Rattle.tn_base.specs.Sets.{has, minus, sum_over}
+use Rattle.tn_base.specs.Sets.{minus, sum_over}
 use Rattle.tn_base.proofs.SetLemmas.{has_from_minus-zero}
 use Rattle.tn_dealer.specs.declared.pair.Pair.{Pair}
 use Rattle.tn_dealer.specs.Pairs.{matched_worth}
-use Rattle.tn_dealer.specs.Certificates.{own_number, KeepsPairs}
+use Rattle.tn_dealer.specs.Certificates.{KeepsPairs}
+use Rattle.tn_market.specs.OwnNumbers.{own_number}
 use Rattle.tn_dealer.specs.Paths.{number_to, own_number_to}
 use Rattle.tn_dealer.specs.WorthLemmas.{AreOwnPairs}
 use Rattle.tn_dealer.proofs.CertificateLemmas.{weak_duality}

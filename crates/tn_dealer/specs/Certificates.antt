@@ -1,13 +1,9 @@
 -- What shows the worth of a bundle: numbers for the positions (potentials) that no listed pair exceeds.
-use Rattle.std.specs.Prelude.{◌≡◌, ℕ, ◌<◌, ◌<ℤ◌, ◌⊎◌, Bool, true, false, ℤ, pos, ◌+ℤ◌, ◌≤ℤ◌, if◌then◌else◌, List, get_or, slice_get, Some}
+use Rattle.std.specs.Prelude.{◌≡◌, ℕ, ◌<◌, ◌<ℤ◌, ◌⊎◌, Bool, true, false, ℤ, pos, ◌+ℤ◌, ◌≤ℤ◌, if◌then◌else◌, List, slice_get, Some}
 use Rattle.tn_base.specs.Sets.{has, toggle}
 use Rattle.tn_dealer.specs.declared.pair.Pair.{Pair}
 use Rattle.tn_dealer.specs.Costs.{cost_at, far}
 use Rattle.tn_market.specs.Widths.{most_own}
-
--- the number of a position
-abbrev pub own_number : List ℤ → ℕ → ℤ
-own_number numbers k = get_or numbers k (pos 0)
 
 -- what the numbers of a pair's two trades may sum to: its cost, or 0
 abbrev pub bound_of : Bool → Pair → ℤ

@@ -1,5 +1,6 @@
 -- The costs of listed pairs, each at a place of its own.
-use Rattle.std.specs.Prelude.{◌≡◌, ℕ, ◌+◌, ◌*◌, ◌<◌, ℤ, pos, ◌<ℤ◌, List, length, get_or, slice_get, Some}
+use Rattle.std.specs.Prelude.{◌≡◌, ℕ, ◌+◌, ◌*◌, ◌<◌, ◌==◌, ◌&&◌, Bool, true, ℤ, pos, ◌<ℤ◌, List, length, take, get_or, slice_get, Some}
+use Rattle.std.specs.List.{list_any}
 use Rattle.tn_dealer.specs.declared.pair.Pair.{Pair}
 use Rattle.tn_market.specs.Widths.{most_own}
 
@@ -15,24 +16,17 @@ far = pos 2147483647
 abbrev pub cost_at : List ℤ → ℕ → ℕ → ℤ
 cost_at costs buy sell = get_or costs (place_of_pair buy sell) (pos 0)
 
--- one of the first n pairs has this purchase, this sale and this cost
-pub record IsListed (pairs : List Pair) (n buy sell : ℕ) (cost : ℤ) : Type 0 where
-  pub at : ℕ
-  pub before : at < n
-  pub pair : Pair
-  pub is : slice_get pairs at ≡ Some pair
-  pub same_buy : pair.buy ≡ buy
-  pub same_sell : pair.sell ≡ sell
-  pub same_cost : pair.cost ≡ cost
+-- a pair has this purchase and this sale
+abbrev pub is_of : ℕ → ℕ → Pair → Bool
+is_of buy sell pair = (pair.buy == buy) && (pair.sell == sell)
 
--- the cost of each of the first n pairs stands at its place, and what stands at a place is far or the cost of such a
--- pair
+-- the cost of each of the first n pairs stands at its place, and what stands at a place is far or such a cost
 pub record AreCostsBelow (pairs : List Pair) (n : ℕ) (costs : List ℤ) : Type 0 where
   pub counted : length costs ≡ most_own * most_own
   pub each : (k : ℕ) (pair : Pair) → k < n → slice_get pairs k ≡ Some pair
       → cost_at costs pair.buy pair.sell ≡ pair.cost
   pub only : (buy sell : ℕ) → buy < most_own → sell < most_own → cost_at costs buy sell <ℤ far
-      → IsListed pairs n buy sell (cost_at costs buy sell)
+      → list_any (is_of buy sell) (take n pairs) ≡ true
 
 abbrev pub AreCosts : List Pair → List ℤ → Type 0
 AreCosts pairs costs = AreCostsBelow pairs (length pairs) costs

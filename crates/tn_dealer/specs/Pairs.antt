@@ -7,6 +7,8 @@ use Rattle.tn_base.specs.Table.{buys_of}
 use Rattle.tn_base.specs.declared.side.Side.{Side}
 use Rattle.tn_market.specs.Reduced.{greater}
 use Rattle.tn_dealer.specs.declared.pair.Pair.{Pair}
+use Rattle.tn_dealer.specs.declared.pair.DealerRefusal.{DealerRefusal}
+use Rattle.tn_dealer.specs.declared.pair.DealerRefusal.TheVariants.{OutOfMemory, SamePair}
 use Rattle.tn_base.specs.Widths.{most_amount}
 use Rattle.tn_market.specs.Widths.{most_own}
 
@@ -65,6 +67,11 @@ pub record IsFirstRepeated (pairs : List Pair) (k : ℕ) : Type 0 where
 abbrev pub GivesFirstRepeated : List Pair → Option ℕ → Type 0
 GivesFirstRepeated pairs None = AreUnrepeated pairs
 GivesFirstRepeated pairs (Some k) = IsFirstRepeated pairs k
+
+-- why pairs make no dealer: the first repeated one, or want of memory where none is repeated
+abbrev pub IsRefusedFor : List Pair → DealerRefusal → Type 0
+IsRefusedFor pairs (SamePair index) = IsFirstRepeated pairs index
+IsRefusedFor pairs OutOfMemory = AreUnrepeated pairs
 
 -- both positions are below 60
 pub record IsNear (pair : Pair) : Type 0 where

@@ -3,7 +3,8 @@ use Rattle.std.specs.Prelude.{ℕ, Bool, true, not, ℤ, ◌+ℤ◌, ◌-ℤ◌,
 use Rattle.tn_base.specs.Sets.{has}
 use Rattle.tn_dealer.specs.declared.pair.Pair.{Pair}
 use Rattle.tn_dealer.specs.declared.row.PathNumbers.{PathNumbers}
-use Rattle.tn_dealer.specs.Certificates.{own_number, KeepsPairs}
+use Rattle.tn_dealer.specs.Certificates.{KeepsPairs}
+use Rattle.tn_market.specs.OwnNumbers.{own_number}
 
 -- a number for a path so long, by that for no path and that for a path longer than all others: it rises by the distance,
 -- but not above the far number, or falls by the distance, but not below it

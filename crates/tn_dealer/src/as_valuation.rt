@@ -33,7 +33,7 @@ impl Valuation for Dealer {
 
     fn value(&self, x: Bundle, steps: &mut Steps<Asked>) -> Option<i128> {
         steps.tick();
-        self.worth(&self.costs(), x)
+        self.worth(x)
     }
 
     fn row(
@@ -43,12 +43,11 @@ impl Valuation for Dealer {
         worths: &mut [Option<i128>],
         steps: &mut Steps<Asked>,
     ) {
-        let costs = self.costs();
-        let spare = self.spare(&costs, x, wanted);
+        let spare = self.spare(x, wanted);
         for k in 0..self.trades {
             if wanted.has(k) {
                 steps.tick();
-                worths[k as usize] = self.toggled_worth(&costs, x, k, &spare);
+                worths[k as usize] = self.toggled_worth(x, k, &spare);
             }
         }
     }

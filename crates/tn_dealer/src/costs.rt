@@ -1,12 +1,12 @@
 //! The costs of the listed pairs by purchase and sale, so that a pair is found by its two positions.
 
-ghost use Rattle.std.specs.Prelude.{◌≡◌, ◌*◌, ◌+◌, ◌<◌};
+ghost use Rattle.std.specs.Prelude.{◌≡◌, ◌*◌, ◌+◌, ◌<◌, All};
 ghost use Rattle.tn_base.specs.Arcs.{IsAtMost};
 ghost use Rattle.tn_base.specs.Widths.{most_amount};
 ghost use Rattle.tn_dealer.specs.Costs.{AreCosts, place_of_pair};
+ghost use Rattle.tn_dealer.specs.Pairs.{AreUnrepeated, IsNear};
 ghost use Rattle.tn_market.specs.Widths.{most_own};
 
-use crate::dealer::Dealer;
 use crate::pair::Pair;
 use tn_market::MOST_OWN;
 
@@ -37,16 +37,16 @@ fn cost_of(pair: &Pair) -> i32
     pair.cost as i32
 }
 
-impl Dealer {
-    /// The costs of the listed pairs, each at the place of its purchase and its sale.
-    pub(crate) fn costs(&self) -> [i32; CELLS]
-        ensures { AreCosts self.now.pairs.items result }
-    {
-        let mut costs = [UNLISTED; CELLS];
-        for k in 0..self.pairs.len() {
-            let pair = &self.pairs[k];
-            costs[place(pair.buy as usize, pair.sell as usize)] = cost_of(pair);
-        }
-        costs
+/// The costs of pairs, each at the place of its purchase and its sale.
+pub(crate) fn costs_of(pairs: &[Pair]) -> [i32; CELLS]
+    requires near { All IsNear pairs.now }
+    requires small { All (λ pair. IsAtMost pair.cost most_amount) pairs.now }
+    requires different { AreUnrepeated pairs.now }
+    ensures { AreCosts pairs.now result }
+{
+    let mut costs = [UNLISTED; CELLS];
+    for pair in pairs {
+        costs[place(pair.buy as usize, pair.sell as usize)] = cost_of(pair);
     }
+    costs
 }

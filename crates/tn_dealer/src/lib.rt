@@ -15,4 +15,4 @@ mod worth;
 
 pub use dealer::Dealer;
 pub use laws::dealers_match;
-pub use pair::{Pair, SamePair};
+pub use pair::{DealerRefusal, Pair};

@@ -13,10 +13,16 @@ pub struct Pair {
     pub cost: i128,
 }
 
-/// A pair has the purchase and the sale of an earlier one.
+/// Why pairs make no dealer.
 #[derive(Clone, Copy, Debug, Drop, PartialEq, Eq, Error)]
-#[error("pair {index} has the purchase and the sale of an earlier one")]
-pub struct SamePair {
-    /// The first such pair, counted from 0.
-    pub index: u32,
+pub enum DealerRefusal {
+    /// A pair has the purchase and the sale of an earlier one.
+    #[error("pair {index} has the purchase and the sale of an earlier one")]
+    SamePair {
+        /// The first such pair, counted from 0.
+        index: u32,
+    },
+    /// Memory ran out.
+    #[error("out of memory")]
+    OutOfMemory,
 }

@@ -4,12 +4,11 @@
 ghost use Rattle.std.specs.Prelude.{◌≡◌, ◌*◌, ◌^◌, ◌<◌, ◌≤◌, if◌then◌else◌, not, true, false, pos, IfSome};
 ghost use Rattle.tn_base.specs.Arcs.{IsAtMost};
 ghost use Rattle.tn_base.specs.Sets.{has, sum_over, toggle};
-ghost use Rattle.tn_dealer.specs.Costs.{AreCosts};
 ghost use Rattle.tn_dealer.specs.Pairs.{matched_worth};
 ghost use Rattle.tn_dealer.specs.Paths.{number_to, own_number_to, KeepPaths};
 ghost use Rattle.tn_market.specs.Widths.{most_own};
 
-use crate::costs::{CELLS, POSITIONS};
+use crate::costs::POSITIONS;
 use crate::dealer::Dealer;
 use crate::search::{Path, Spare};
 use tn_base::Bundle;
@@ -106,17 +105,11 @@ impl PathNumbers {
 
 impl Dealer {
     /// A matching of a bundle but one trade, from which a row is read off, where its numbers pass the test.
-    pub(crate) fn spare<'a>(
-        &self,
-        costs: &'a [i32; CELLS],
-        x: Bundle,
-        wanted: Bundle,
-    ) -> Option<Spare<'a>>
-        requires costs { AreCosts self.now.pairs.items costs.now }
+    pub(crate) fn spare(&self, x: Bundle, wanted: Bundle) -> Option<Spare<'_>>
         ensures { IfSome result (λ spare. KeepPaths self.now.pairs.items spare.numbers) }
     {
-        if let Some(spare) = Spare::of(costs, self.trades as usize, x, self.buys, wanted) {
-            if self.keep_paths(costs, &spare.numbers) {
+        if let Some(spare) = Spare::of(&self.costs, self.trades as usize, x, self.buys, wanted) {
+            if self.keep_paths(&spare.numbers) {
                 return Some(spare);
             }
         }
@@ -124,23 +117,15 @@ impl Dealer {
     }
 
     /// Whether the numbers of no pair of these trades sum to more than its cost, however long the path is.
-    fn keep_paths(&self, costs: &[i32; CELLS], numbers: &PathNumbers) -> bool
-        requires costs { AreCosts self.now.pairs.items costs.now }
+    fn keep_paths(&self, numbers: &PathNumbers) -> bool
         ensures { result ≡ true → KeepPaths self.now.pairs.items numbers.now }
     {
-        self.keeps(costs, numbers.within, &numbers.near, true)
-            && self.keeps(costs, numbers.within, &numbers.far, true)
+        self.keeps(numbers.within, &numbers.near, true)
+            && self.keeps(numbers.within, &numbers.far, true)
     }
 
     /// What a bundle with position `k` toggled is worth, from a matching of the bundle where there is one.
-    pub(crate) fn toggled_worth(
-        &self,
-        costs: &[i32; CELLS],
-        x: Bundle,
-        k: u32,
-        spare: &Option<Spare>,
-    ) -> Option<i128>
-        requires costs { AreCosts self.now.pairs.items costs.now }
+    pub(crate) fn toggled_worth(&self, x: Bundle, k: u32, spare: &Option<Spare>) -> Option<i128>
         requires position { k < most_own }
         requires keep { IfSome spare.now (λ spare. KeepPaths self.now.pairs.items spare.numbers) }
         ensures { result ≡ matched_worth self.now.pairs.items (toggle x k) }
@@ -151,22 +136,15 @@ impl Dealer {
         }
         if let Some(spare) = spare {
             let path = spare.toggled(k as usize);
-            if let Some(worth) = self.shown_along(costs, toggled, &spare.numbers, &path) {
+            if let Some(worth) = self.shown_along(toggled, &spare.numbers, &path) {
                 return worth;
             }
         }
-        self.worth(costs, toggled)
+        self.worth(toggled)
     }
 
     /// The worth that a path shows, None where it shows nothing.
-    fn shown_along(
-        &self,
-        costs: &[i32; CELLS],
-        x: Bundle,
-        numbers: &PathNumbers,
-        path: &Path,
-    ) -> Option<Option<i128>>
-        requires costs { AreCosts self.now.pairs.items costs.now }
+    fn shown_along(&self, x: Bundle, numbers: &PathNumbers, path: &Path) -> Option<Option<i128>>
         requires keep { KeepPaths self.now.pairs.items numbers.now }
         ensures { IfSome result (λ worth. worth ≡ matched_worth self.now.pairs.items x) }
     {
@@ -177,7 +155,7 @@ impl Dealer {
         if MOST_WORTH < sum {
             return Some(None);
         }
-        let (bundle, cost) = self.taken(costs, &path.mates);
+        let (bundle, cost) = self.taken(&path.mates);
         if bundle == x && cost == sum {
             Some(Some(-cost))
         } else {

@@ -6,8 +6,9 @@ ghost use Rattle.tn_base.specs.Arcs.{IsAtMost};
 ghost use Rattle.tn_base.specs.Sets.{has, sum_over};
 ghost use Rattle.tn_market.specs.Reduced.{greater};
 ghost use Rattle.tn_dealer.specs.Pairs.{matched_worth};
-ghost use Rattle.tn_dealer.specs.Certificates.{own_number, KeepsAt, KeepsBeside, KeepsPairs, MayTake};
-ghost use Rattle.tn_dealer.specs.Costs.{AreCosts, far};
+ghost use Rattle.tn_dealer.specs.Certificates.{KeepsAt, KeepsBeside, KeepsPairs, MayTake};
+ghost use Rattle.tn_market.specs.OwnNumbers.{own_number};
+ghost use Rattle.tn_dealer.specs.Costs.{far};
 ghost use Rattle.tn_firm_laws.specs.Worths.{IsWorth};
 ghost use Rattle.tn_base.specs.Widths.{most_amount};
 ghost use Rattle.tn_market.specs.Widths.{most_worth, most_own};
@@ -26,34 +27,32 @@ impl Dealer {
     }
 
     /// What a bundle of own trades is worth, None where it is impossible.
-    pub(crate) fn worth(&self, costs: &[i32; CELLS], x: Bundle) -> Option<i128>
-        requires costs { AreCosts self.now.pairs.items costs.now }
+    pub(crate) fn worth(&self, x: Bundle) -> Option<i128>
         ensures { result ≡ matched_worth self.now.pairs.items x }
     {
         if !self.is_even(x) {
             return None;
         }
-        match self.shown(costs, x, &search(costs, self.trades as usize, x, self.buys)) {
+        match self.shown(x, &search(&self.costs, self.trades as usize, x, self.buys)) {
             Some(worth) => worth,
             None => self.worth_from(0, x),
         }
     }
 
     /// The worth that what was found shows, None where it shows nothing.
-    fn shown(&self, costs: &[i32; CELLS], x: Bundle, found: &Certificate) -> Option<Option<i128>>
-        requires costs { AreCosts self.now.pairs.items costs.now }
+    fn shown(&self, x: Bundle, found: &Certificate) -> Option<Option<i128>>
         ensures { IfSome result (λ worth. worth ≡ matched_worth self.now.pairs.items x) }
     {
         let sum = sum(x, self.trades as usize, &found.numbers);
         if !found.matched {
-            return if 0 < sum && self.keeps(costs, x, &found.numbers, false) {
+            return if 0 < sum && self.keeps(x, &found.numbers, false) {
                 Some(None)
             } else {
                 None
             };
         }
-        let (bundle, cost) = self.taken(costs, &found.mates);
-        if bundle == x && cost == sum && self.keeps(costs, x, &found.numbers, true) {
+        let (bundle, cost) = self.taken(&found.mates);
+        if bundle == x && cost == sum && self.keeps(x, &found.numbers, true) {
             Some(Some(-cost))
         } else {
             None
@@ -61,21 +60,14 @@ impl Dealer {
     }
 
     /// Whether the numbers of no pair within the bundle sum to more than its cost, or than 0 where costs don't count.
-    pub(crate) fn keeps(
-        &self,
-        costs: &[i32; CELLS],
-        x: Bundle,
-        numbers: &[i64; POSITIONS],
-        priced: bool,
-    ) -> bool
-        requires costs { AreCosts self.now.pairs.items costs.now }
+    pub(crate) fn keeps(&self, x: Bundle, numbers: &[i64; POSITIONS], priced: bool) -> bool
         ensures { result ≡ true → KeepsPairs priced (own_number numbers.now) x self.now.pairs.items }
     {
         let purchases = x.meet(self.buys);
         let sales = x.minus(self.buys);
         let trades = self.trades as usize;
         for buy in 0..trades {
-            if !keeps_beside(costs, trades, buy, purchases, sales, numbers, priced) {
+            if !keeps_beside(&self.costs, trades, buy, purchases, sales, numbers, priced) {
                 return false;
             }
         }
@@ -83,15 +75,14 @@ impl Dealer {
     }
 
     /// The bundle that the mates match by listed pairs, and what these cost together.
-    pub(crate) fn taken(&self, costs: &[i32; CELLS], mates: &Mates) -> (Bundle, i128)
-        requires costs { AreCosts self.now.pairs.items costs.now }
+    pub(crate) fn taken(&self, mates: &Mates) -> (Bundle, i128)
         ensures worth { IsWorth (matched_worth self.now.pairs.items) result.0 (neg_ℤ result.1) }
         ensures small { IsAtMost result.1 (most_own * most_amount) }
     {
         let mut bundle = Bundle::empty();
         let mut cost = 0;
         for k in 0..self.trades as usize {
-            (bundle, cost) = take_in(costs, mates.pair_at(k), bundle, cost);
+            (bundle, cost) = take_in(&self.costs, mates.pair_at(k), bundle, cost);
         }
         (bundle, cost)
     }

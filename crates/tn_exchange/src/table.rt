@@ -15,7 +15,7 @@ use tn_base::{Bundle, OutOfMemory, Side, purchases};
 
 /// A table of numbers for bundles of own positions that may not meet exchange. The empty bundle is worth 0 where it
 /// has no row; every other bundle without a row is impossible.
-#[derive(Debug, Drop)]
+#[derive(Drop)]
 pub struct RawTable {
     sides: Vec<Side>,
     // one place for each bundle, by its number

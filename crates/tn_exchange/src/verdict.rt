@@ -3,7 +3,7 @@
 use tn_base::Bundle;
 
 /// Whether a table meets exchange.
-#[derive(Clone, Copy, Debug, PartialEq, Eq)]
+#[derive(Clone, Copy, PartialEq, Eq)]
 pub enum Verdict {
     /// No triple fails.
     Holds,

@@ -5,7 +5,7 @@ ghost use Rattle.tn_io.specs.Counts.{Rose};
 ghost use Rattle.tn_io.specs.Sink.{Grows};
 
 /// A write failed. It took nothing.
-#[derive(Clone, Copy, Debug, PartialEq, Eq)]
+#[derive(Clone, Copy, PartialEq, Eq)]
 pub struct WriteFailed;
 
 /// Where bytes are written to.

@@ -17,7 +17,8 @@ use Rattle.tn_laminar.specs.declared.row.Slope.{Slope}
 use Rattle.tn_laminar.specs.LawLemmas.{numbers_small, amounts_small}
 use Rattle.tn_laminar.specs.WithinLemmas.{all_at, listed_within}
 use Rattle.tn_laminar.specs.Rows.{most_counted, counted_or_unlisted, listed_sum, counted_sum, counted_beside, IsSlope, step_of, counted_change, AreChanges}
-use Rattle.tn_laminar.specs.Sum.{HasNumbersWithin, IsLaminar, IsOwnSet, amount_at, laminar_sum, set_number, term_of}
+use Rattle.tn_laminar.specs.Sum.{HasNumbersWithin, IsLaminar, IsOwnSet, laminar_sum, set_number, term_of}
+use Rattle.tn_market.specs.OwnNumbers.{own_number}
 use Rattle.tn_laminar.specs.declared.masks.Masks.{Masks}
 use Rattle.tn_laminar.specs.Masked.{masks_of, net_within}
 use Rattle.tn_laminar.proofs.ValueLemmas.{net_by_masks, CountsSoFar, counts_none, counts_more, counts_stop, counts_all}
@@ -393,11 +394,11 @@ changes_none buys sets x wanted changes zeros j wants =
 
 -- the worth of an own bundle is the sum of its amounts and numbers
 pub worth_at : (count buys : ℕ) (amounts : List ℤ) (sets : List LaminarSet) (y : ℕ) → y < 2 ^ count
-    → both (Some (sum_over (amount_at amounts) count y)) (count_sum buys (map term_of sets) y)
+    → both (Some (sum_over (own_number amounts) count y)) (count_sum buys (map term_of sets) y)
     ≡ (laminar_sum count buys amounts sets).worth y
 worth_at count buys amounts sets y own =
     sym (ap (λ (b : Bool). if b
-    then both (Some (sum_over (amount_at amounts) count y)) (count_sum buys (map term_of sets) y)
+    then both (Some (sum_over (own_number amounts) count y)) (count_sum buys (map term_of sets) y)
     else None) (lt-ltb y (2 ^ count) own))
 
 -- so it is by what the numbers count, where one isn't listed and where all are
@@ -405,30 +406,30 @@ pub worth_none : (count buys : ℕ) (amounts : List ℤ) (sets : List LaminarSet
     → All HasNumbersWithin sets → length sets ≤ most_sets
     → listed_sum (counted_sum buys sets (length sets) y) ≡ None → None ≡ (laminar_sum count buys amounts sets).worth y
 worth_none count buys amounts sets y own all few none =
-    ap (both (Some (sum_over (amount_at amounts) count y))) (sym none ∙ listed_sum_is buys sets y all few)
+    ap (both (Some (sum_over (own_number amounts) count y))) (sym none ∙ listed_sum_is buys sets y all few)
     ∙ worth_at count buys amounts sets y own
 
 worth_some : (count buys : ℕ) (amounts : List ℤ) (sets : List LaminarSet) (y : ℕ) (numbers : ℤ) → y < 2 ^ count
     → All HasNumbersWithin sets → length sets ≤ most_sets
     → listed_sum (counted_sum buys sets (length sets) y) ≡ Some numbers
     → (IsAtMost numbers (most_sets * most_amount))
-    × (Some (sum_over (amount_at amounts) count y +ℤ numbers) ≡ (laminar_sum count buys amounts sets).worth y)
+    × (Some (sum_over (own_number amounts) count y +ℤ numbers) ≡ (laminar_sum count buys amounts sets).worth y)
 worth_some count buys amounts sets y numbers own all few some =
     let is : Some numbers ≡ count_sum buys (map term_of sets) y = sym some ∙ listed_sum_is buys sets y all few in (
       numbers_small buys y sets few all numbers (sym is),
-      ap (both (Some (sum_over (amount_at amounts) count y))) is ∙ worth_at count buys amounts sets y own,
+      ap (both (Some (sum_over (own_number amounts) count y))) is ∙ worth_at count buys amounts sets y own,
     )
 
 -- ---- the amounts
 
 -- the amount with a position toggled, which is in the range of the code's
 pub record IsToggledAmount (count : ℕ) (amounts : List ℤ) (x k : ℕ) (z : ℤ) : Type 0 where
-  pub sum : z ≡ sum_over (amount_at amounts) count (toggle x k)
+  pub sum : z ≡ sum_over (own_number amounts) count (toggle x k)
   pub small : IsAtMost z (most_own * most_amount)
   pub fits : SFits w128 z
 
 toggled_amount : (count : ℕ) (amounts : List ℤ) (x k : ℕ) (z : ℤ) → count ≤ most_own → length amounts ≡ count
-    → All (λ a. IsAtMost a most_amount) amounts → z ≡ sum_over (amount_at amounts) count (toggle x k)
+    → All (λ a. IsAtMost a most_amount) amounts → z ≡ sum_over (own_number amounts) count (toggle x k)
     → IsToggledAmount count amounts x k z
 toggled_amount count amounts x k z few as_many all is =
     let small : IsAtMost z (most_own * most_amount) =
@@ -441,20 +442,20 @@ toggled_amount count amounts x k z few as_many all is =
 -- an amount less where the position is moved out, and one more where it is moved in
 module _ (count buys : ℕ) (amounts : List ℤ) (sets : List LaminarSet) (masks : List Masks)
     (is : IsLaminar count buys amounts sets masks) (x k : ℕ) (amount own : ℤ) (below : k < count)
-    (amount_is : amount ≡ sum_over (amount_at amounts) count x) (own_is : own ≡ get_or amounts k own) where
-  read : own ≡ amount_at amounts k
+    (amount_is : amount ≡ sum_over (own_number amounts) count x) (own_is : own ≡ get_or amounts k own) where
+  read : own ≡ own_number amounts k
   read = let many = is.as_many in get_or_read amounts k own (omega (arith, below, many)) own_is (pos 0)
 
   pub amount_out : has x k ≡ true → IsToggledAmount count amounts x k (amount -ℤ own)
   amount_out present =
-      let toggled = sum_over-toggle_out (amount_at amounts) count x k below present in
+      let toggled = sum_over-toggle_out (own_number amounts) count x k below present in
       let own_there = read in
       toggled_amount count amounts x k (amount -ℤ own) is.few is.as_many is.small
       (omega (arith, ints, toggled, amount_is, own_there))
 
   pub amount_in : has x k ≡ false → IsToggledAmount count amounts x k (amount +ℤ own)
   amount_in absent =
-      let toggled = sum_over-toggle_in (amount_at amounts) count x k below absent in
+      let toggled = sum_over-toggle_in (own_number amounts) count x k below absent in
       let own_there = read in
       toggled_amount count amounts x k (amount +ℤ own) is.few is.as_many is.small
       (omega (arith, ints, toggled, amount_is, own_there))
@@ -469,7 +470,7 @@ pub record IsSum (count buys : ℕ) (amounts : List ℤ) (sets : List LaminarSet
 pub sum_with : (count buys : ℕ) (amounts : List ℤ) (sets : List LaminarSet) (y : ℕ) (amount numbers : ℤ)
     → y < 2 ^ count → All HasNumbersWithin sets → length sets ≤ most_sets
     → listed_sum (counted_sum buys sets (length sets) y) ≡ Some numbers
-    → amount ≡ sum_over (amount_at amounts) count y → IsAtMost amount (most_own * most_amount)
+    → amount ≡ sum_over (own_number amounts) count y → IsAtMost amount (most_own * most_amount)
     → IsSum count buys amounts sets y amount numbers
 sum_with count buys amounts sets y amount numbers own all few some amount_is small =
     let there = worth_some count buys amounts sets y numbers own all few some in

@@ -24,7 +24,8 @@ use Rattle.tn_laminar.specs.Firms.{firm_of}
 use Rattle.tn_laminar.specs.declared.set.LaminarSet.{LaminarSet}
 use Rattle.tn_laminar.specs.declared.masks.Masks.{Masks}
 use Rattle.tn_laminar.specs.Faults.{HasEmpty}
-use Rattle.tn_laminar.specs.Sum.{HasNumbersWithin, IsLaminar, IsOwnSet, amount_at, laminar_sum, term_of}
+use Rattle.tn_laminar.specs.Sum.{HasNumbersWithin, IsLaminar, IsOwnSet, laminar_sum, term_of}
+use Rattle.tn_market.specs.OwnNumbers.{own_number}
 use Rattle.tn_laminar.specs.WithinLemmas.{HasNumbersUpTo, all_at, amounts_within, count_sum_within, laminar_sum_within}
 use Rattle.tn_base.specs.Widths.{most_amount}
 use Rattle.tn_market.specs.Widths.{most_own, most_worth}
@@ -67,7 +68,7 @@ meets : (count buys : ℕ) (amounts : List ℤ) (sets : List LaminarSet) (masks 
     → IsLaminar count buys amounts sets masks
     → HasOwnBundles (laminar_sum count buys amounts sets) × MeetsExchange (laminar_sum count buys amounts sets)
 meets count buys amounts sets masks is =
-    meets-nested count buys (amount_at amounts) (map term_of sets) (nested_from count buys amounts sets masks is)
+    meets-nested count buys (own_number amounts) (map term_of sets) (nested_from count buys amounts sets masks is)
 
 -- the empty bundle has no trade within any set
 meet-zero : (q : ℕ) → meet 0 q ≡ 0
@@ -97,16 +98,16 @@ empty_is_possible_of : (count buys : ℕ) (amounts : List ℤ) (sets : List Lami
 empty_is_possible_of count buys amounts sets masks is =
     let counted = empty_sum buys sets (λ k set e. (is.sound k set e).empty) in
     let own : 0 < 2 ^ count = pow_pos count in (
-      sum_over (amount_at amounts) count 0 +ℤ counted.0,
-      ap (λ b. if b then both (Some (sum_over (amount_at amounts) count 0)) (count_sum buys (map term_of sets) 0)
+      sum_over (own_number amounts) count 0 +ℤ counted.0,
+      ap (λ b. if b then both (Some (sum_over (own_number amounts) count 0)) (count_sum buys (map term_of sets) 0)
           else None) (lt-ltb 0 (2 ^ count) own)
-          ∙ ap (both (Some (sum_over (amount_at amounts) count 0))) counted.1,
+          ∙ ap (both (Some (sum_over (own_number amounts) count 0))) counted.1,
     )
 
 -- the amounts sum to at most 60 times 10^9
 pub amounts_small : (count : ℕ) (amounts : List ℤ) (x : ℕ) → count ≤ most_own → length amounts ≡ count
     → All (λ a. IsAtMost a most_amount) amounts
-    → IsAtMost (sum_over (amount_at amounts) count x) (most_own * most_amount)
+    → IsAtMost (sum_over (own_number amounts) count x) (most_own * most_amount)
 amounts_small count amounts x few as_many small =
     let sum = amounts_within count amounts x most_amount as_many small in
     let low = sum.low in

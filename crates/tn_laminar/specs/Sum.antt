@@ -1,5 +1,5 @@
 -- The firm of an amount for each own trade, and of sets with a number for each net count within them.
-use Rattle.std.specs.Prelude.{◌≡◌, ℕ, ◌^◌, ◌<◌, ◌≤◌, ℤ, pos, List, map, length, get_or, All, Option, Some, None}
+use Rattle.std.specs.Prelude.{◌≡◌, ℕ, ◌^◌, ◌<◌, ◌≤◌, ℤ, pos, List, map, length, All, Option, Some, None}
 use Rattle.tn_base.specs.Arcs.{IsAtMost}
 use Rattle.tn_base.specs.Firm.{Firm, net}
 use Rattle.tn_base.specs.Sets.{meet}
@@ -13,6 +13,7 @@ use Rattle.tn_laminar.specs.Faults.{AreSound}
 use Rattle.tn_model.specs.Limits.{most_from, most_values, most_sets}
 use Rattle.tn_base.specs.Widths.{most_amount}
 use Rattle.tn_market.specs.Widths.{most_own}
+use Rattle.tn_market.specs.OwnNumbers.{own_number}
 
 -- a set's numbers are few and small, and begin near 0
 pub record HasNumbersWithin (set : LaminarSet) : Type 0 where
@@ -33,14 +34,10 @@ abbrev pub set_number : ℕ → ℕ → Option LaminarSet → Option ℤ
 set_number buys x (Some set) = listed_from set.low set.numbers (net buys (meet x set.members))
 set_number buys x None = None
 
--- the amount at a position
-abbrev pub amount_at : List ℤ → ℕ → ℤ
-amount_at amounts k = get_or amounts k (pos 0)
-
 -- a bundle is worth the sum of its trades' amounts, and for each set the number at the net count within it; it is
 -- impossible where one of these counts isn't listed
 abbrev pub laminar_sum : ℕ → ℕ → List ℤ → List LaminarSet → Firm
-laminar_sum count buys amounts sets = nested_sum count buys (amount_at amounts) (map term_of sets)
+laminar_sum count buys amounts sets = nested_sum count buys (own_number amounts) (map term_of sets)
 
 abbrev pub laminar_firm : List Side → List ℤ → List LaminarSet → Firm
 laminar_firm sides amounts sets = laminar_sum (length sides) (buys_of sides) amounts sets

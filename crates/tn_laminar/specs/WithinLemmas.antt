@@ -15,7 +15,8 @@ use Rattle.tn_firm_laws.specs.Nested.{count_sum, listed_from, at_place}
 use Rattle.tn_firm_laws.proofs.BoundLemmas.{sum_over_small}
 use Rattle.tn_market.specs.Valued.{IsWorthAtMost}
 use Rattle.tn_laminar.specs.declared.set.LaminarSet.{LaminarSet}
-use Rattle.tn_laminar.specs.Sum.{amount_at, laminar_firm, laminar_sum, term_of}
+use Rattle.tn_laminar.specs.Sum.{laminar_firm, laminar_sum, term_of}
+use Rattle.tn_market.specs.OwnNumbers.{own_number}
 
 -- an element of a list of which all elements meet P meets it
 pub all_at : {X : Type 0} (P : X → Type 0) (xs : List X) (k : ℕ) (x : X) → All P xs → slice_get xs k ≡ Some x → P x
@@ -66,8 +67,8 @@ count_sum_within buys x (set ∷ sets) amount small u is =
 
 -- the amounts of the own trades
 pub amounts_within : (count : ℕ) (amounts : List ℤ) (x amount : ℕ) → length amounts ≡ count
-    → All (λ a. IsAtMost a amount) amounts → IsAtMost (sum_over (amount_at amounts) count x) (count * amount)
-amounts_within count amounts x amount as_many small = sum_over_small (amount_at amounts) count x amount
+    → All (λ a. IsAtMost a amount) amounts → IsAtMost (sum_over (own_number amounts) count x) (count * amount)
+amounts_within count amounts x amount as_many small = sum_over_small (own_number amounts) count x amount
     (λ k h. All-get_or (λ a. IsAtMost a amount) amounts k (pos 0) (omega (arith, h, as_many)) small)
 
 pub laminar_sum_within : (count buys : ℕ) (amounts : List ℤ) (sets : List LaminarSet) (amount : ℕ)
@@ -77,14 +78,14 @@ laminar_sum_within count buys amounts sets amount as_many small small_numbers x 
     by (nat_lt x (2 ^ count)) worth_is
   where
     by : (b : Bool)
-        → (if b then both (Some (sum_over (amount_at amounts) count x)) (count_sum buys (map term_of sets) x) else None)
+        → (if b then both (Some (sum_over (own_number amounts) count x)) (count_sum buys (map term_of sets) x) else None)
         ≡ Some a → IsAtMost a ((count + length sets) * amount)
     by false e = absurd (none-some a e)
     by true e =
-        let parts = both_parts (Some (sum_over (amount_at amounts) count x)) (count_sum buys (map term_of sets) x) a e
+        let parts = both_parts (Some (sum_over (own_number amounts) count x)) (count_sum buys (map term_of sets) x) a e
         in
         let own = subst (λ (z : ℤ). IsAtMost z (count * amount))
-        (same_Some (sum_over (amount_at amounts) count x) parts.0 parts.2)
+        (same_Some (sum_over (own_number amounts) count x) parts.0 parts.2)
         (amounts_within count amounts x amount as_many small) in
         let counted = count_sum_within buys x sets amount small_numbers parts.1 parts.3 in
         let each : (count + length sets) * amount ≡ count * amount + length sets * amount = omega arith in

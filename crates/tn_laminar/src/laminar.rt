@@ -6,7 +6,8 @@ ghost use Rattle.tn_base.specs.Sets.{has, sum_over};
 ghost use Rattle.tn_firm_laws.specs.Nested.{count_sum};
 ghost use Rattle.tn_laminar.specs.Faults.{AreSound, IsRefusedFor};
 ghost use Rattle.tn_laminar.specs.Masked.{masks_of};
-ghost use Rattle.tn_laminar.specs.Sum.{HasNumbersWithin, IsLaminar, IsOwnSet, amount_at, laminar_firm, set_number, term_of};
+ghost use Rattle.tn_laminar.specs.Sum.{HasNumbersWithin, IsLaminar, IsOwnSet, laminar_firm, set_number, term_of};
+ghost use Rattle.tn_market.specs.OwnNumbers.{own_number};
 ghost use Rattle.tn_market.specs.Widths.{most_own};
 ghost use Rattle.tn_base.specs.Widths.{most_amount};
 ghost use Rattle.tn_model.specs.Limits.{most_sets};
@@ -73,7 +74,7 @@ impl Laminar {
     /// What position `k` adds to the worth of a bundle.
     fn amount_in(&self, x: Bundle, k: u32) -> i128
         requires { k < self.now.trades }
-        ensures term { result ≡ (if has x k then amount_at self.now.amounts.items k else pos 0) }
+        ensures term { result ≡ (if has x k then own_number self.now.amounts.items k else pos 0) }
         ensures small { IsAtMost result most_amount }
     {
         if x.has(k) {
@@ -86,7 +87,7 @@ impl Laminar {
     /// The sum of the amounts of a bundle's trades.
     #[tactic(auto, unfolding(tn_base::specs::Sets::sum_over))]
     pub(crate) fn amount(&self, x: Bundle) -> i128
-        ensures sum { result ≡ sum_over (amount_at self.now.amounts.items) self.now.trades x }
+        ensures sum { result ≡ sum_over (own_number self.now.amounts.items) self.now.trades x }
         ensures small { IsAtMost result (most_own * most_amount) }
     {
         let mut total = 0;

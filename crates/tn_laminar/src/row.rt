@@ -10,7 +10,8 @@ ghost use Rattle.tn_market.specs.Widths.{most_own};
 ghost use Rattle.tn_model.specs.Limits.{most_sets};
 ghost use Rattle.tn_laminar.specs.Firms.{firm_of};
 ghost use Rattle.tn_laminar.specs.Rows.{AreChanges, IsSlope, counted_or_unlisted, counted_sum, listed_sum, most_counted, step_of};
-ghost use Rattle.tn_laminar.specs.Sum.{HasNumbersWithin, amount_at, set_number};
+ghost use Rattle.tn_laminar.specs.Sum.{HasNumbersWithin, set_number};
+ghost use Rattle.tn_market.specs.OwnNumbers.{own_number};
 
 use crate::laminar::Laminar;
 use crate::set::LaminarSet;
@@ -158,8 +159,8 @@ impl Laminar {
     /// The sum of the amounts of a bundle's trades with position `k` toggled, by the sum without.
     fn toggled_amount(&self, x: Bundle, k: u32, amount: i128) -> i128
         requires position { k < self.now.trades }
-        requires amount { amount ≡ sum_over (amount_at self.now.amounts.items) self.now.trades x }
-        ensures sum { result ≡ sum_over (amount_at self.now.amounts.items) self.now.trades (toggle x k) }
+        requires amount { amount ≡ sum_over (own_number self.now.amounts.items) self.now.trades x }
+        ensures sum { result ≡ sum_over (own_number self.now.amounts.items) self.now.trades (toggle x k) }
         ensures small { IsAtMost result (most_own * most_amount) }
     {
         let own = self.amounts[k as usize];
@@ -176,7 +177,7 @@ impl Laminar {
     ) -> Option<i128>
         requires own { x < 2 ^ self.now.trades }
         requires position { k < self.now.trades }
-        requires amount { amount ≡ sum_over (amount_at self.now.amounts.items) self.now.trades x }
+        requires amount { amount ≡ sum_over (own_number self.now.amounts.items) self.now.trades x }
         requires numbers { numbers ≡ counted_sum self.now.buys self.now.sets.items (length self.now.sets.items)
             (toggle x k) }
         ensures { result ≡ (firm_of self.now).worth (toggle x k) }

@@ -1,5 +1,6 @@
 -- The files of definitions of this crate.
 pub mod Widths
+pub mod OwnNumbers
 pub mod Equilibrium
 pub mod Graph
 pub mod Supported

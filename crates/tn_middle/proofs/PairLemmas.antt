@@ -12,7 +12,8 @@ use Rattle.tn_base.proofs.SetLemmas.{has-meet, has-minus, has-zero, has-toggle_o
 use Rattle.tn_base.proofs.SizeLemmas.{size-zero, size-toggle_in, size-toggle_out}
 use Rattle.tn_base.proofs.SumLemmas.{sum_over-empty, sum_over-toggle_in}
 use Rattle.tn_base.proofs.FirmLemmas.{meet-toggle_in, meet-toggle_out, minus-toggle_in, minus-toggle_out}
-use Rattle.tn_middle.specs.Pairs.{own_number, by_counts, pair_worth, pairing}
+use Rattle.tn_middle.specs.Pairs.{by_counts, pair_worth, pairing}
+use Rattle.tn_market.specs.OwnNumbers.{own_number}
 use Rattle.tn_middle.specs.PairLaw.{IsOnePurchase, IsPair, MiddlemenPair}
 use Rattle.tn_middle.specs.SetLemmas.{empty_from_counts}
 use Rattle.tn_middle.specs.LawLemmas.{pairing-empty, meet-none, minus-none}

@@ -11,7 +11,8 @@ use Rattle.tn_market.specs.Lawful.{IsLawful}
 use Rattle.tn_market.proofs.AscentLemmas.{smaller}
 use Rattle.tn_middle.specs.declared.middle.Middle.{Middle}
 use Rattle.tn_middle.specs.Firms.{firm_of}
-use Rattle.tn_middle.specs.Pairs.{IsMiddle, own_number, by_counts, pair_worth, pairing}
+use Rattle.tn_middle.specs.Pairs.{IsMiddle, by_counts, pair_worth, pairing}
+use Rattle.tn_market.specs.OwnNumbers.{own_number}
 use Rattle.tn_middle.specs.SetLemmas.{meets}
 use Rattle.tn_middle.specs.WithinLemmas.{pairing_within}
 use Rattle.tn_base.specs.Widths.{most_amount}

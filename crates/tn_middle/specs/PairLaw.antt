@@ -3,7 +3,8 @@ use Rattle.std.specs.Prelude.{◌≡◌, ℕ, ◌<◌, ◌⊎◌, true, false, �
 use Rattle.tn_base.specs.Sets.{has, toggle}
 use Rattle.tn_base.specs.Firm.{Firm}
 use Rattle.tn_base.specs.declared.side.Side.{Side}
-use Rattle.tn_middle.specs.Pairs.{own_number, middle_firm}
+use Rattle.tn_middle.specs.Pairs.{middle_firm}
+use Rattle.tn_market.specs.OwnNumbers.{own_number}
 
 -- the position is a purchase
 pub record IsPurchase (firm : Firm) (k : ℕ) : Type 0 where

@@ -1,5 +1,5 @@
 -- A middleman: a good that is bought and sold on, or kept.
-use Rattle.std.specs.Prelude.{ℕ, zero, suc, ◌^◌, ◌<◌, ◌≤◌, nat_lt, ℤ, pos, ◌+ℤ◌, if◌then◌else◌, List, length, get_or, All, Option, Some, None, option_map, ◌≡◌}
+use Rattle.std.specs.Prelude.{ℕ, zero, suc, ◌^◌, ◌<◌, ◌≤◌, nat_lt, ℤ, pos, ◌+ℤ◌, if◌then◌else◌, List, length, All, Option, Some, None, option_map, ◌≡◌}
 use Rattle.std.specs.Option.{ForSome}
 use Rattle.tn_base.specs.Arcs.{IsAtMost}
 use Rattle.tn_base.specs.Sets.{meet, minus, size, sum_over}
@@ -8,10 +8,7 @@ use Rattle.tn_base.specs.Table.{buys_of}
 use Rattle.tn_base.specs.declared.side.Side.{Side}
 use Rattle.tn_market.specs.Widths.{most_own}
 use Rattle.tn_base.specs.Widths.{most_amount}
-
--- the cost of the purchase, or the gain of the sale, at a position
-abbrev pub own_number : List ℤ → ℕ → ℤ
-own_number numbers k = get_or numbers k (pos 0)
+use Rattle.tn_market.specs.OwnNumbers.{own_number}
 
 -- the worth of so many purchases and sales, by the gains of these sales less the costs of these purchases: no trade is
 -- worth 0; a purchase alone may be kept, where that is worth something; a purchase goes with a sale; and nothing else

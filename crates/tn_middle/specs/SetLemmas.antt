@@ -15,7 +15,8 @@ use Rattle.tn_base.specs.Options.{both}
 use Rattle.tn_firm_laws.specs.Nested.{CountTerm, AreNested, Cross, IsConcave, IsConcaveList, count_sum, nested_sum, listed_from, at_place}
 use Rattle.tn_firm_laws.proofs.NestedLemmas.{meets-nested}
 use Rattle.tn_firm_laws.proofs.ConcaveLemmas.{concave-listed}
-use Rattle.tn_middle.specs.Pairs.{own_number, by_counts, pair_worth, pairing}
+use Rattle.tn_middle.specs.Pairs.{by_counts, pair_worth, pairing}
+use Rattle.tn_market.specs.OwnNumbers.{own_number}
 
 -- all positions
 abbrev pub all_of : ℕ → ℕ

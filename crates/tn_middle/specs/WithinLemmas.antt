@@ -13,7 +13,8 @@ use Rattle.tn_base.specs.Table.{buys_of}
 use Rattle.tn_base.specs.declared.side.Side.{Side}
 use Rattle.tn_firm_laws.proofs.BoundLemmas.{sum_over_small}
 use Rattle.tn_market.specs.Valued.{IsWorthAtMost}
-use Rattle.tn_middle.specs.Pairs.{own_number, by_counts, pairing, middle_firm}
+use Rattle.tn_middle.specs.Pairs.{by_counts, pairing, middle_firm}
+use Rattle.tn_market.specs.OwnNumbers.{own_number}
 
 -- what a position adds is small
 payment_within : (buys : ℕ) (numbers : List ℤ) (k amount : ℕ) → k < length numbers

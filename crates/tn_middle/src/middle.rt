@@ -5,7 +5,8 @@ ghost use Rattle.std.specs.Option.{ForSome};
 ghost use Rattle.tn_base.specs.Arcs.{IsAtMost};
 ghost use Rattle.tn_base.specs.Sets.{has, meet, minus, size, sum_over};
 ghost use Rattle.tn_base.specs.Firm.{payments};
-ghost use Rattle.tn_middle.specs.Pairs.{IsMiddle, by_counts, own_number, middle_firm};
+ghost use Rattle.tn_middle.specs.Pairs.{IsMiddle, by_counts, middle_firm};
+ghost use Rattle.tn_market.specs.OwnNumbers.{own_number};
 ghost use Rattle.tn_market.specs.Widths.{most_own};
 ghost use Rattle.tn_base.specs.Widths.{most_amount};
 

@@ -1,5 +1,5 @@
 -- The limits of every version leave room.
-use Rattle.std.proofs.Common.{◌≡◌, ℕ, ◌≤◌, ◌*◌, ◌+◌, Bool, true, false, cond, nat_eq, nat_le, Some, None, refl, sym, subst, le-leb, arith}
+use Rattle.std.proofs.Common.{◌≡◌, ℕ, ◌≤◌, ◌*◌, Bool, true, false, cond, nat_eq, nat_le, Some, None, refl, sym, subst, le-leb, arith}
 use Rattle.std.proofs.lemmas.Option.{none-some, same_Some}
 use Rattle.tn_model.specs.declared.limits.Limits.{Limits}
 use Rattle.tn_model.specs.Limits.{AreLimits, few_trades, limits_of, limits_of_many, limits_with, most_worth_among}

@@ -16,6 +16,6 @@ pub use contract::{Contract, Outcome};
 pub use ends::Ends;
 pub use limits::Limits;
 pub use lists::{Amounts, Contracts, Lent, Listed, Nodes, Prices, Ranges, TradeEnds, Trades};
-pub use positions::{own, trades_of};
+pub use positions::{bundle_of, own, trades_of};
 pub use range::Range;
 pub use sides::{count_own, sides_of};

@@ -10,7 +10,6 @@ use Rattle.tn_model.specs.declared.ends.Ends.{Ends}
 use Rattle.tn_model.specs.Network.{part, IsNetwork}
 use Rattle.tn_model.specs.Prices.{price_at}
 use Rattle.tn_market.specs.Graph.{exchange_arc, ArePossible, graph_worths}
-use Rattle.tn_market.specs.Valued.{IsWorthAtMost}
 use Rattle.tn_market.specs.Supported.{AreSupports, IsFirstUnable, IsNegativeCycle, said_node}
 use Rattle.tn_graph.specs.Blocks.{CostBlocks, arcs_of}
 use Rattle.tn_graph.specs.BlockLemmas.{arcs_of-small}

@@ -17,7 +17,7 @@ use std::alloc::Global;
 use tn_base::{Bundle, OutOfMemory, TradeSet};
 use tn_firm::RawFirm;
 use tn_market::MOST_OWN;
-use tn_model::{Arrangement, Ends, Prices, Trades, own, trades_of};
+use tn_model::{Arrangement, Ends, Prices, Trades, bundle_of, own, trades_of};
 use tn_said::{Holding, Holdings, Said};
 
 /// The prices of the `n` trades of firm `f`, by position.
@@ -34,24 +34,6 @@ fn own_prices(ends: &[Ends], prices: &Prices, f: u32, n: u32) -> [i128; MOST_OWN
         own_prices[k as usize] = prices.at(own(ends, f, k) as usize);
     }
     own_prices
-}
-
-/// The bundle that firm `f`, which has `n` trades, has of a set of trades.
-#[tactic(auto, unfolding(tn_base::specs::Sets::set_of))]
-fn bundle_of<const W: usize>(ends: &[Ends], on: &TradeSet<W>, f: u32, n: u32) -> Bundle
-    requires few_trades { length ends.now ≤ most_trades }
-    requires wide { length ends.now ≤ 64 * W }
-    requires few { n ≤ most_own }
-    requires placed { (k : ℕ) → k < n → own ends.now f k < length ends.now }
-    ensures { result ≡ part ends.now f n on.now }
-{
-    let mut bundle = Bundle::empty();
-    for k in 0..n {
-        if on.has(own(ends, f, k)) {
-            bundle = bundle.toggle(k);
-        }
-    }
-    bundle
 }
 
 /// What a firm's utility gains by a best bundle.

@@ -34,7 +34,7 @@ pub(crate) fn dealer_of(
     let place = [Key(Word::Firms), Index(f), Key(Word::Pairs)];
     let entries = optional_list(alloc, member(firm, Word::Pairs), &place)?;
     let pairs = read_pairs(alloc, head, f, entries)?;
-    Ok(Dealer::of_different(sides, pairs))
+    Ok(Dealer::of_different(alloc, sides, pairs)?)
 }
 
 /// The pairs of the entries, of which none is repeated.

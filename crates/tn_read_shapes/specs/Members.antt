@@ -4,7 +4,7 @@ use Rattle.std.specs.Str.{bytes_eq}
 use Rattle.serde_json.specs.Data.{Members, no_members, member}
 use Rattle.tn_read_shapes.specs.declared.members.ObjectKind.{ObjectKind}
 use Rattle.tn_read_shapes.specs.declared.members.FirmKind.TheVariants.{Table, Laminar, Middleman, Dealer}
-use Rattle.tn_read_shapes.specs.declared.members.ObjectKind.TheVariants.{Top, Trade, Firm, LaminarSet, Arrangement, Outcome, Claim}
+use Rattle.tn_read_shapes.specs.declared.members.ObjectKind.TheVariants.{Top, Trade, Firm, LaminarSet, UnitTrade, CountSet, Arrangement, Outcome, Claim}
 use Rattle.tn_read_shapes.specs.Claims.{allows_in_claim}
 
 -- the members that an object may have; a note is never read
@@ -23,6 +23,10 @@ allows (Firm Middleman) k = bytes_eq k (codes "name") || bytes_eq k (codes "kind
 allows (Firm Dealer) k = bytes_eq k (codes "name") || bytes_eq k (codes "kind") || bytes_eq k (codes "pairs")
     || bytes_eq k (codes "note")
 allows LaminarSet k = bytes_eq k (codes "trades") || bytes_eq k (codes "from") || bytes_eq k (codes "values")
+allows UnitTrade k = bytes_eq k (codes "name") || bytes_eq k (codes "seller") || bytes_eq k (codes "buyer")
+    || bytes_eq k (codes "units") || bytes_eq k (codes "note")
+allows CountSet k = bytes_eq k (codes "trades") || bytes_eq k (codes "bought") || bytes_eq k (codes "sold")
+    || bytes_eq k (codes "from") || bytes_eq k (codes "values")
 allows Arrangement k = bytes_eq k (codes "on") || bytes_eq k (codes "prices")
 allows Outcome k = bytes_eq k (codes "over") || bytes_eq k (codes "contracts")
 allows (Claim kind) k = allows_in_claim kind k

@@ -36,6 +36,10 @@ pub enum ObjectKind {
     Firm(FirmKind),
     /// A set of a laminar firm.
     LaminarSet,
+    /// A trade of many units.
+    UnitTrade,
+    /// A set of a firm whose trades have units.
+    CountSet,
     /// The arrangement.
     Arrangement,
     /// The outcome.
@@ -117,6 +121,26 @@ fn allows(kind: ObjectKind, key: &str) -> bool
             &[Word::Name, Word::Kind, Word::Pairs, Word::Note],
         ),
         ObjectKind::LaminarSet => is_one_of(key, &[Word::Trades, Word::From, Word::Values]),
+        ObjectKind::UnitTrade => is_one_of(
+            key,
+            &[
+                Word::Name,
+                Word::Seller,
+                Word::Buyer,
+                Word::Units,
+                Word::Note,
+            ],
+        ),
+        ObjectKind::CountSet => is_one_of(
+            key,
+            &[
+                Word::Trades,
+                Word::Bought,
+                Word::Sold,
+                Word::From,
+                Word::Values,
+            ],
+        ),
         ObjectKind::Arrangement => is_one_of(key, &[Word::On, Word::Prices]),
         ObjectKind::Outcome => is_one_of(key, &[Word::Over, Word::Contracts]),
         ObjectKind::Claim(kind) => allows_in_claim(kind, key),

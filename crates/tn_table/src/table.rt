@@ -18,7 +18,7 @@ pub struct Table {
 
 /// A table that doesn't meet exchange, as it was given, with its first triple: the first failing one in test order, or,
 /// with more than 10 sides, the first of those with close bundles.
-#[derive(Debug, Drop)]
+#[derive(Drop)]
 pub struct TableRefused {
     /// The table.
     pub raw: RawTable,

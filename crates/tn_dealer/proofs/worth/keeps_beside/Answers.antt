@@ -1,5 +1,5 @@
 -- What shows the clauses of `keeps_beside` of `src/worth.rt`.
-use Rattle.tn_dealer.specs.Certificates.{own_number}
+use Rattle.tn_market.specs.OwnNumbers.{own_number}
 use Rattle.tn_dealer.proofs.CertificateLemmas.{beside_more}
 use Rattle.tn_dealer.proofs.worth.keeps_beside.Goals as goal
 

@@ -1,5 +1,6 @@
 -- What the loops of `keeps_beside` of `src/worth.rt` keep.
-use Rattle.tn_dealer.specs.Certificates.{own_number, KeepsBeside}
+use Rattle.tn_dealer.specs.Certificates.{KeepsBeside}
+use Rattle.tn_market.specs.OwnNumbers.{own_number}
 use Rattle.tn_dealer.proofs.worth.keeps_beside.Given as goal
 
 abbrev pub invariant-loop-sell : goal.invariant-loop-sell

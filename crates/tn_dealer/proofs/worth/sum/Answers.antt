@@ -1,7 +1,7 @@
 -- What shows the clauses of `sum` of `src/worth.rt`.
 use Rattle.std.proofs.Common.{arith}
 use Rattle.std.proofs.lemmas.Int.{ints}
-use Rattle.tn_dealer.specs.Certificates.{own_number}
+use Rattle.tn_market.specs.OwnNumbers.{own_number}
 use Rattle.tn_dealer.proofs.CertificateLemmas.{sum_over-next, sum_over-none}
 use Rattle.tn_dealer.proofs.worth.sum.Goals as goal
 

@@ -2,7 +2,7 @@
 use Rattle.std.proofs.Common.{◌≡◌, ◌*◌, ◌^◌}
 use Rattle.tn_base.specs.Arcs.{IsAtMost}
 use Rattle.tn_base.specs.Sets.{sum_over}
-use Rattle.tn_dealer.specs.Certificates.{own_number}
+use Rattle.tn_market.specs.OwnNumbers.{own_number}
 use Rattle.tn_dealer.proofs.worth.sum.Given as goal
 
 abbrev pub invariant-loop-k : goal.invariant-loop-k

@@ -1,5 +1,5 @@
 -- What shows the clauses of `answer_document` of `src/answer.rt`.
-use Rattle.std.proofs.Common.{ap, subst, sym, ◌∙◌}
+use Rattle.std.proofs.Common.{ap, rules, subst, sym, ◌∙◌}
 use Rattle.std.specs.Prelude.{IfOk}
 use Rattle.tn_file.specs.declared.asked.Asked.{Asked}
 use Rattle.tn_file.specs.declared.asked.Asked.TheVariants.{Check, Judge, Range, Replay, Session, Solve, Support}
@@ -74,6 +74,13 @@ answer_replay-requires-clause-wide c =
 pub answer_replay-requires-clause-worths : goal.answer_replay-requires-clause-worths
 answer_replay-requires-clause-worths c =
     (market_fits _ c.args.doc.now c.requires.document c.in-Market.market c.in-Market.asked c.in-Market.is).worths
+
+pub answer_firms-requires : goal.answer_firms-requires
+answer_firms-requires c =
+    let fits = raw_fits _ c.args.doc.now c.requires.document c.in-Raw.net c.in-Raw.asked c.in-Raw.is in
+    let few_firms = fits.few_firms in
+    let few_trades = fits.few_trades in
+    search rules
 
 pub answer_test-requires-clause-few_firms : goal.answer_test-requires-clause-few_firms
 answer_test-requires-clause-few_firms c =

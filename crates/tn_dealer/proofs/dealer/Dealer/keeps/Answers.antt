@@ -1,7 +1,8 @@
 -- What shows the clauses of `Dealer::keeps` of `src/worth.rt`.
-use Rattle.std.proofs.Common.{ℕ, arith, ap, ◌∙◌, subst}
+use Rattle.std.proofs.Common.{ℕ, ℤ, List, arith, ap, ◌∙◌, subst}
 use Rattle.tn_base.specs.Sets.{has, meet, minus}
-use Rattle.tn_dealer.specs.Certificates.{own_number, KeepsBeside}
+use Rattle.tn_dealer.specs.Certificates.{KeepsBeside}
+use Rattle.tn_market.specs.OwnNumbers.{own_number}
 use Rattle.tn_dealer.specs.WorthLemmas.{own_pairs}
 use Rattle.tn_dealer.proofs.CertificateLemmas.{keeps_listed, keeps_more}
 use Rattle.tn_dealer.proofs.dealer.Dealer.keeps.Goals as goal
@@ -13,17 +14,19 @@ pub loop-buy-preserved : goal.loop-buy-preserved
 loop-buy-preserved c =
     let dealer = c.args.self.now in
     let number = own_number c.args.numbers.now in
-    keeps_more c.args.priced c.args.costs.now number (meet c.args.x dealer.buys) (minus c.args.x dealer.buys)
+    keeps_more c.args.priced c.args.self.now.costs.value number (meet c.args.x dealer.buys) (minus c.args.x dealer.buys)
     dealer.trades c.loop-buy.buy c.loop-buy.invariant
-    (λ member. subst (λ (sales : ℕ). KeepsBeside c.args.priced c.args.costs.now number sales c.loop-buy.buy
+    (λ member. subst (λ (sales : ℕ). KeepsBeside c.args.priced dealer.costs.value number sales c.loop-buy.buy
     dealer.trades) c.minus-sales.ensures
+    (subst (λ (costs : List ℤ). KeepsBeside c.args.priced costs number c.minus-sales.result c.loop-buy.buy
+    dealer.trades) c.deref.ensures
     (c.keeps_beside.ensures c.if-not-keeps_beside.false (ap (λ (z : ℕ). has z c.loop-buy.buy) c.meet-purchases.ensures
-    ∙ member)))
+    ∙ member))))
 
 pub returns : goal.returns
 returns c = λ _.
     let dealer = c.args.self.now in
-    keeps_listed dealer.trades dealer.buys dealer.pairs.items c.args.costs.now c.args.priced
+    keeps_listed dealer.trades dealer.buys dealer.pairs.items c.args.self.now.costs.value c.args.priced
     (own_number c.args.numbers.now) c.args.x
-    (own_pairs dealer.trades dealer.buys dealer.pairs.items dealer.dealer.own) c.requires.costs
+    (own_pairs dealer.trades dealer.buys dealer.pairs.items dealer.dealer.own) c.args.self.now.placed
     (λ buy near member. c.loop-buy.invariant buy (let past = c.loop-buy-test.false in omega (arith, near, past)) member)

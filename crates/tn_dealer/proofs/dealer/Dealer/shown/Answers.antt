@@ -4,7 +4,7 @@ use Rattle.std.specs.Prelude.{neg_ℤ}
 use Rattle.std.proofs.lemmas.Int.{ints, to_z-of_z}
 use mir.Syntax.{w128}
 use mir.Val.{SFits, of_z, to_z}
-use Rattle.tn_dealer.specs.Certificates.{own_number}
+use Rattle.tn_market.specs.OwnNumbers.{own_number}
 use Rattle.tn_dealer.specs.Pairs.{matched_worth}
 use Rattle.tn_firm_laws.specs.Worths.{IsWorth}
 use Rattle.tn_dealer.specs.WorthLemmas.{own_pairs}

@@ -1,13 +1,13 @@
 -- What shows the clauses of `Laminar::amount` of `src/laminar.rt`.
 use Rattle.std.proofs.Common.{arith}
 use Rattle.std.proofs.lemmas.Int.{ints}
-use Rattle.tn_laminar.specs.Sum.{amount_at}
+use Rattle.tn_market.specs.OwnNumbers.{own_number}
 use Rattle.tn_laminar.proofs.ValueLemmas.{sum_over-next}
 use Rattle.tn_laminar.proofs.laminar.Laminar.amount.Goals as goal
 
 pub loop-k-preserved : goal.loop-k-preserved
 loop-k-preserved c =
-    let next = sum_over-next (amount_at c.args.self.now.amounts.items) c.loop-k.k c.args.x in
+    let next = sum_over-next (own_number c.args.self.now.amounts.items) c.loop-k.k c.args.x in
     let sum = c.loop-k.invariant.sum in
     let low = c.loop-k.invariant.small.low in
     let high = c.loop-k.invariant.small.high in

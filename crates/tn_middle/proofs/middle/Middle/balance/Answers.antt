@@ -2,7 +2,7 @@
 use Rattle.std.proofs.Common.{arith}
 use Rattle.std.proofs.lemmas.Int.{ints}
 use Rattle.tn_base.specs.Firm.{payments}
-use Rattle.tn_middle.specs.Pairs.{own_number}
+use Rattle.tn_market.specs.OwnNumbers.{own_number}
 use Rattle.tn_middle.proofs.BalanceLemmas.{sum_over-next}
 use Rattle.tn_middle.proofs.middle.Middle.balance.Goals as goal
 

@@ -3,7 +3,7 @@ use Rattle.std.proofs.Common.{◌≡◌, ◌*◌}
 use Rattle.tn_base.specs.Arcs.{IsAtMost}
 use Rattle.tn_base.specs.Sets.{sum_over}
 use Rattle.tn_base.specs.Firm.{payments}
-use Rattle.tn_middle.specs.Pairs.{own_number}
+use Rattle.tn_market.specs.OwnNumbers.{own_number}
 use Rattle.tn_middle.proofs.middle.Middle.balance.Given as goal
 use Rattle.tn_base.specs.Widths.{most_amount}
 

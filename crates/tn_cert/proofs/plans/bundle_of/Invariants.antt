@@ -1,7 +1,0 @@
--- What the loops of `bundle_of` of `src/plans.rt` keep.
-use Rattle.std.proofs.Common.{◌≡◌}
-use Rattle.tn_model.specs.Network.{part}
-use Rattle.tn_cert.proofs.plans.bundle_of.Given as goal
-
-abbrev pub invariant-loop-k : goal.invariant-loop-k
-invariant-loop-k l = l.bundle ≡ part l.ends l.f l.k l.on
