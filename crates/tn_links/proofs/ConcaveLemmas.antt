@@ -102,11 +102,11 @@ there_and_back nodes links levels lot u v first second plain first_is second_is 
     ∙ back.cost_is in
     let is = plain.each there.place there.link there.link_is in
     elim (ends_of there.link u v there.joined) [
-      | inl ends ↦ more_and_less there.link there.level lot first second is.falling
+      | inl ends ↦ more_and_less there.link there.level lot first second is.steps.falling
           (sym (from_tail there.link there.level lot u ends.0) ∙ there.cost_is)
           (sym (from_head there.link there.level lot v (λ e. is.apart (e ∙ sym ends.1))) ∙ back_cost)
       | inr ends ↦
-          let sum = more_and_less there.link there.level lot second first is.falling
+          let sum = more_and_less there.link there.level lot second first is.steps.falling
           (sym (from_tail there.link there.level lot v ends.0) ∙ back_cost)
           (sym (from_head there.link there.level lot u (λ e. is.apart (e ∙ sym ends.1))) ∙ there.cost_is) in
           omega (arith, ints, sum)

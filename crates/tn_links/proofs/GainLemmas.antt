@@ -1,10 +1,11 @@
 -- How far the gain of a flow is from what no flow gains.
-use Rattle.std.proofs.Common.{◌≡◌, ℕ, suc, ◌+◌, ◌-◌, ◌*◌, ◌<◌, ◌≤◌, refl, ap, arith, inl, inr, List, [], ◌∷◌, length, ℤ, pos, ◌-ℤ◌, ◌≤ℤ◌, Some}
+use Rattle.std.proofs.Common.{◌≡◌, ℕ, zero, suc, ◌+◌, ◌-◌, ◌*◌, ◌<◌, ◌≤◌, refl, ap, ◌∙◌, arith, inl, inr, List, [], ◌∷◌, length, drop, ℤ, pos, ◌+ℤ◌, ◌-ℤ◌, ◌≤ℤ◌, Some}
 use Rattle.std.specs.Prelude.{◌<ℤ◌, slice_get}
 use Rattle.std.specs.Int.RustNames.{unsigned_abs}
 use Rattle.std.proofs.Math.IntN.{negsuc}
 use Rattle.std.proofs.lemmas.Int.{ints}
 use Rattle.std.proofs.lemmas.Bool.{cases_lt}
+use Rattle.std.proofs.lemmas.Option.{none-some, same_Some}
 use Rattle.tn_links.specs.declared.link.Link.{Link}
 use Rattle.tn_links.specs.Flows.{AreWithin, IsKeptFlow, gain, total_gain}
 use Rattle.tn_links.specs.Links.{ArePlain, IsLink, rise, room}
@@ -19,17 +20,17 @@ gain_small : (nodes : ℕ) (link : Link) (level : ℕ) → IsLink nodes link →
     → gain link level ≤ℤ pos (most_units * most_each)
 gain_small nodes link level is within = elim (cases_lt level link.back) [
   | inl below ↦
-      let small = rise_slight link.steps.items level (link.back - level) is.slight in
+      let small = rise_slight link.steps.items level (link.back - level) is.steps.slight in
       let same : rise link.steps.items (level + (link.back - level)) ≡ rise link.steps.items link.back =
       ap (rise link.steps.items) (omega (arith, below)) in
-      let back = is.back_within in
-      let few = is.few_units in
+      let back = is.steps.back_within in
+      let few = is.steps.few_units in
       omega (arith, ints, small.low, same, back, few)
   | inr above ↦
-      let small = rise_slight link.steps.items link.back (level - link.back) is.slight in
+      let small = rise_slight link.steps.items link.back (level - link.back) is.steps.slight in
       let same : rise link.steps.items (link.back + (level - link.back)) ≡ rise link.steps.items level =
       ap (rise link.steps.items) (omega (arith, above)) in
-      let few = is.few_units in
+      let few = is.steps.few_units in
       omega (arith, ints, small.high, same, within, few)
 ]
 
@@ -60,3 +61,17 @@ pub gain_rises : (nodes : ℕ) (links : List Link) (levels after : List ℕ) →
 gain_rises nodes links levels after plain kept more =
     left_falls (length links * (most_units * most_each)) (total_gain links levels) (total_gain links after) more
     (total_small nodes links after plain.each kept.within)
+
+-- the gain of the link at a place, and what those after it gain
+pub total_gain-more : (links : List Link) (levels : List ℕ) (j level : ℕ) (link : Link) → slice_get links j ≡ Some link
+    → slice_get levels j ≡ Some level
+    → total_gain (drop j links) (drop j levels) ≡ gain link level +ℤ total_gain (drop (j + 1) links) (drop (j + 1) levels)
+total_gain-more [] levels j level link link_is level_is = absurd (none-some link link_is)
+total_gain-more (first ∷ links) [] j level link link_is level_is = absurd (none-some level level_is)
+total_gain-more (first ∷ links) (here ∷ levels) zero level link link_is level_is =
+    ap (λ (l : Link). gain l here +ℤ total_gain links levels) (same_Some first link link_is)
+    ∙ ap (λ (n : ℕ). gain link n +ℤ total_gain links levels) (same_Some here level level_is)
+total_gain-more (first ∷ links) (here ∷ levels) (suc j) level link link_is level_is =
+    let next : suc (j + 1) ≡ suc j + 1 = omega arith in
+    total_gain-more links levels j level link link_is level_is
+    ∙ ap (λ (k : ℕ). gain link level +ℤ total_gain (drop k (first ∷ links)) (drop k (here ∷ levels))) next

@@ -1,9 +1,10 @@
 -- Labels that keep the graph of a kept flow show that no kept flow gains more.
-use Rattle.std.proofs.Common.{◌≡◌, ◌≢◌, ℕ, zero, suc, ◌+◌, ◌-◌, ◌<◌, ◌≤◌, refl, sym, ap, ◌∙◌, arith, inl, inr, List, [], ◌∷◌, length, ℤ, pos, ◌+ℤ◌, ◌-ℤ◌, ◌≤ℤ◌, Some, None, Bool, true, ◌==◌, if◌then◌else◌}
-use Rattle.std.specs.Prelude.{◌*ℤ◌, neg_ℤ, slice_get}
+use Rattle.std.proofs.Common.{◌≡◌, ℕ, zero, suc, ◌+◌, ◌-◌, ◌<◌, ◌≤◌, refl, sym, ap, ◌∙◌, arith, inl, inr, List, [], ◌∷◌, length, ℤ, pos, ◌+ℤ◌, ◌-ℤ◌, ◌≤ℤ◌, Some, None, Bool, true, ◌==◌, if◌then◌else◌}
+use Rattle.std.specs.Prelude.{◌*ℤ◌, slice_get}
 use Rattle.std.proofs.lemmas.Int.{ints}
-use Rattle.std.proofs.lemmas.Bool.{cases_lt, cases_eq, eq-eqb, ne_eqb, le-leb}
-use Rattle.std.proofs.Math.IntN.{ℤ_ind, +ℤ_one, -ℤ_one, zero-*ℤ, *ℤ-zero, *ℤ_comm, suc_ℤ-*ℤ, pred_ℤ-*ℤ}
+use Rattle.std.proofs.lemmas.Bool.{cases_lt, le-leb}
+use Rattle.std.proofs.Math.IntN.{*ℤ-zero}
+use Rattle.tn_base.proofs.SumLemmas.{times-plus}
 use Rattle.tn_base.specs.Walks.{KeepsArcs}
 use Rattle.tn_links.specs.declared.link.Link.{Link}
 use Rattle.tn_links.specs.declared.link.Step.{Step}
@@ -15,96 +16,8 @@ use Rattle.tn_links.specs.LotLemmas.{joins_by}
 use Rattle.tn_links.specs.RiseLemmas.{rise-suc, slope, times_suc}
 use Rattle.tn_links.proofs.ConcaveLemmas.{from_head, from_tail, slope_falls}
 use Rattle.tn_links.proofs.NearLemmas.{arc_some, is_between}
-
-times-plus : (a u v : ℤ) → a *ℤ (u +ℤ v) ≡ a *ℤ u +ℤ a *ℤ v
-times-plus a u v = ℤ_ind (λ m. m *ℤ (u +ℤ v) ≡ m *ℤ u +ℤ m *ℤ v) none (λ n. more (pos n)) (λ n. less (neg_ℤ (pos n))) a
-  where
-    none : pos 0 *ℤ (u +ℤ v) ≡ pos 0 *ℤ u +ℤ pos 0 *ℤ v
-    none = omega (arith, ints, zero-*ℤ (u +ℤ v), zero-*ℤ u, zero-*ℤ v)
-
-    one_more : (m w : ℤ) → (m +ℤ pos 1) *ℤ w ≡ m *ℤ w +ℤ w
-    one_more m w = ap (λ (z : ℤ). z *ℤ w) (+ℤ_one m) ∙ suc_ℤ-*ℤ m w
-
-    one_less : (m w : ℤ) → (m -ℤ pos 1) *ℤ w ≡ m *ℤ w -ℤ w
-    one_less m w = ap (λ (z : ℤ). z *ℤ w) (-ℤ_one m) ∙ pred_ℤ-*ℤ m w
-
-    more : (m : ℤ) → m *ℤ (u +ℤ v) ≡ m *ℤ u +ℤ m *ℤ v
-        → (m +ℤ pos 1) *ℤ (u +ℤ v) ≡ (m +ℤ pos 1) *ℤ u +ℤ (m +ℤ pos 1) *ℤ v
-    more m h = omega (arith, ints, h, one_more m (u +ℤ v), one_more m u, one_more m v)
-
-    less : (m : ℤ) → m *ℤ (u +ℤ v) ≡ m *ℤ u +ℤ m *ℤ v
-        → (m -ℤ pos 1) *ℤ (u +ℤ v) ≡ (m -ℤ pos 1) *ℤ u +ℤ (m -ℤ pos 1) *ℤ v
-    less m h = omega (arith, ints, h, one_less m (u +ℤ v), one_less m u, one_less m v)
-
-times-minus : (a u v : ℤ) → a *ℤ (u -ℤ v) ≡ a *ℤ u -ℤ a *ℤ v
-times-minus a u v =
-    let sum = times-plus a (u -ℤ v) v in
-    let whole : a *ℤ ((u -ℤ v) +ℤ v) ≡ a *ℤ u = ap (λ (z : ℤ). a *ℤ z) (omega (arith, ints)) in
-    omega (arith, ints, sum, whole)
-
-minus-times : (a b u : ℤ) → (a -ℤ b) *ℤ u ≡ a *ℤ u -ℤ b *ℤ u
-minus-times a b u =
-    let turned = *ℤ_comm (a -ℤ b) u in
-    let parts = times-minus u a b in
-    let first = *ℤ_comm u a in
-    let second = *ℤ_comm u b in
-    omega (arith, ints, turned, parts, first, second)
-
--- the sum of c over the numbers below n
-unfoldable total : (ℕ → ℤ) → ℕ → ℤ
-total c zero = pos 0
-total c (suc n) = total c n +ℤ c n
-
-total-plus : (f g : ℕ → ℤ) (n : ℕ) → total (λ k. f k +ℤ g k) n ≡ total f n +ℤ total g n
-unfolding total
-total-plus f g zero = refl
-total-plus f g (suc n) = let before = total-plus f g n in omega (arith, ints, before)
-
-total-same : (f g : ℕ → ℤ) (n : ℕ) → ((k : ℕ) → f k ≡ g k) → total f n ≡ total g n
-unfolding total
-total-same f g zero same = refl
-total-same f g (suc n) same =
-    let before = total-same f g n same in
-    let here = same n in
-    omega (arith, ints, before, here)
-
-total-zero : (f : ℕ → ℤ) (n : ℕ) → ((k : ℕ) → f k ≡ pos 0) → total f n ≡ pos 0
-unfolding total
-total-zero f zero none = refl
-total-zero f (suc n) none =
-    let before = total-zero f n none in
-    let here = none n in
-    omega (arith, ints, before, here)
-
--- what a number that is at one place alone adds, times the number of that place
-times_at : (label : ℕ → ℤ) (z : ℤ) (t v : ℕ) → v ≢ t → label v *ℤ (if v == t then z else pos 0) ≡ pos 0
-times_at label z t v other =
-    ap (λ (b : Bool). label v *ℤ (if b then z else pos 0)) (ne_eqb v t other) ∙ *ℤ-zero (label v)
-
-total_below : (label : ℕ → ℤ) (z : ℤ) (t n : ℕ) → n ≤ t → total (λ v. label v *ℤ (if v == t then z else pos 0)) n ≡ pos 0
-unfolding total
-total_below label z t zero past = refl
-total_below label z t (suc n) past =
-    let before = total_below label z t n (omega (arith, past)) in
-    let here = times_at label z t n (λ e. omega (arith, e, past)) in
-    omega (arith, ints, before, here)
-
-total_at : (label : ℕ → ℤ) (z : ℤ) (t n : ℕ) → t < n
-    → total (λ v. label v *ℤ (if v == t then z else pos 0)) n ≡ label t *ℤ z
-unfolding total
-total_at label z t zero inside = absurd (omega (arith, inside))
-total_at label z t (suc n) inside = elim (cases_eq n t) [
-  | inl same ↦
-      let before = total_below label z t n (omega (arith, same)) in
-      let here : label n *ℤ (if n == t then z else pos 0) ≡ label n *ℤ z =
-      ap (λ (b : Bool). label n *ℤ (if b then z else pos 0)) (eq-eqb n t same) in
-      let moved : label n *ℤ z ≡ label t *ℤ z = ap (λ (k : ℕ). label k *ℤ z) same in
-      omega (arith, ints, before, here, moved)
-  | inr other ↦
-      let before = total_at label z t n (omega (arith, inside, other)) in
-      let here = times_at label z t n other in
-      omega (arith, ints, before, here)
-]
+use Rattle.tn_links.proofs.TotalLemmas.{minus-times, times-minus, total-plus, total-same, total-zero, total_at}
+use Rattle.tn_links.specs.Totals.{total}
 
 -- what a flow over one link brings, by the labels
 brought_total : (label : ℕ → ℤ) (link : Link) (x : ℤ) (nodes : ℕ) → link.tail < nodes → link.head < nodes
@@ -114,7 +27,7 @@ brought_total label link x nodes tail head =
     let from : ℕ → ℤ = λ v. label v *ℤ (if v == link.tail then x else pos 0) in
     let parts : total (λ v. label v *ℤ brought link x v +ℤ from v) nodes ≡ total to nodes =
     total-same (λ v. label v *ℤ brought link x v +ℤ from v) to nodes
-    (λ v. let split = times-minus (label v) (if v == link.head then x else pos 0) (if v == link.tail then x else pos 0) in
+    (λ v below. let split = times-minus (label v) (if v == link.head then x else pos 0) (if v == link.tail then x else pos 0) in
     by (label v *ℤ brought link x v) (to v) (from v) split) in
     let sum = total-plus (λ v. label v *ℤ brought link x v) from nodes in
     let first = total_at label x link.head nodes head in
@@ -131,38 +44,38 @@ brought_total label link x nodes tail head =
     by_sums a b c d h t w p q r s e = omega (arith, ints, p, q, r, s, e)
 
 -- the flows, each times what the label of its head is above that of its tail
-abbrev tension : List Link → List ℕ → (ℕ → ℤ) → ℤ
+abbrev pub tension : List Link → List ℕ → (ℕ → ℤ) → ℤ
 tension [] levels label = pos 0
 tension (link ∷ links) [] label = pos 0
 tension (link ∷ links) (level ∷ levels) label =
     (label link.head -ℤ label link.tail) *ℤ flow_at link level +ℤ tension links levels label
 
 -- the ends of each link are nodes
-abbrev AreInside : ℕ → List Link → Type 0
+abbrev pub AreInside : ℕ → List Link → Type 0
 AreInside nodes links = (j : ℕ) (link : Link) → slice_get links j ≡ Some link → (link.tail < nodes) × (link.head < nodes)
 
 tension_total : (nodes : ℕ) (links : List Link) (levels : List ℕ) (label : ℕ → ℤ) → AreInside nodes links
     → total (λ v. label v *ℤ balance links levels v) nodes ≡ tension links levels label
-tension_total nodes [] levels label inside = total-zero (λ v. label v *ℤ pos 0) nodes (λ v. *ℤ-zero (label v))
-tension_total nodes (link ∷ links) [] label inside = total-zero (λ v. label v *ℤ pos 0) nodes (λ v. *ℤ-zero (label v))
+tension_total nodes [] levels label inside = total-zero (λ v. label v *ℤ pos 0) nodes (λ v below. *ℤ-zero (label v))
+tension_total nodes (link ∷ links) [] label inside = total-zero (λ v. label v *ℤ pos 0) nodes (λ v below. *ℤ-zero (label v))
 tension_total nodes (link ∷ links) (level ∷ levels) label inside =
     let own : ℕ → ℤ = λ v. label v *ℤ brought link (flow_at link level) v in
     let rest : ℕ → ℤ = λ v. label v *ℤ balance links levels v in
     let ends = inside 0 link refl in
     total-same (λ v. label v *ℤ balance (link ∷ links) (level ∷ levels) v) (λ v. own v +ℤ rest v) nodes
-    (λ v. times-plus (label v) (brought link (flow_at link level) v) (balance links levels v))
+    (λ v below. times-plus (label v) (brought link (flow_at link level) v) (balance links levels v))
     ∙ total-plus own rest nodes
     ∙ ap (λ (z : ℤ). z +ℤ total rest nodes) (brought_total label link (flow_at link level) nodes ends.0 ends.1)
     ∙ ap (λ (z : ℤ). (label link.head -ℤ label link.tail) *ℤ flow_at link level +ℤ z)
     (tension_total nodes links levels label (λ j one at. inside (suc j) one at))
 
 -- a kept flow has none
-kept_tension : (nodes : ℕ) (links : List Link) (levels : List ℕ) (label : ℕ → ℤ) → AreInside nodes links
+pub kept_tension : (nodes : ℕ) (links : List Link) (levels : List ℕ) (label : ℕ → ℤ) → AreInside nodes links
     → IsKeptFlow links levels → tension links levels label ≡ pos 0
 kept_tension nodes links levels label inside kept =
     sym (tension_total nodes links levels label inside)
     ∙ total-zero (λ v. label v *ℤ balance links levels v) nodes
-    (λ v. ap (λ (z : ℤ). label v *ℤ z) (kept.kept v) ∙ *ℤ-zero (label v))
+    (λ v below. ap (λ (z : ℤ). label v *ℤ z) (kept.kept v) ∙ *ℤ-zero (label v))
 
 -- above a level at which a unit more adds no more than a rate takes
 rises : (steps : List Step) (rate : ℤ) (n : ℕ) → AreFalling steps → (n < room steps → (slope steps n +ℤ rate) ≤ℤ pos 0)
@@ -194,11 +107,11 @@ sinks steps rate n q falling within least (suc p) below =
     omega (arith, ints, before, same, rise-suc steps (q + p), falls, last, times_suc rate p)
 
 -- at a level a rate is between what a unit less and a unit more adds
-record KeepsLink (link : Link) (level : ℕ) (rate : ℤ) : Type 0 where
-  more : level < room link.steps.items → (slope link.steps.items level +ℤ rate) ≤ℤ pos 0
-  less : 0 < level → pos 0 ≤ℤ (slope link.steps.items (level - 1) +ℤ rate)
+pub record KeepsLink (link : Link) (level : ℕ) (rate : ℤ) : Type 0 where
+  pub more : level < room link.steps.items → (slope link.steps.items level +ℤ rate) ≤ℤ pos 0
+  pub less : 0 < level → pos 0 ≤ℤ (slope link.steps.items (level - 1) +ℤ rate)
 
-link_below : (link : Link) (level other : ℕ) (rate : ℤ) → AreFalling link.steps.items → level ≤ room link.steps.items
+pub link_below : (link : Link) (level other : ℕ) (rate : ℤ) → AreFalling link.steps.items → level ≤ room link.steps.items
     → other ≤ room link.steps.items → KeepsLink link level rate
     → (gain link other +ℤ rate *ℤ flow_at link other) ≤ℤ (gain link level +ℤ rate *ℤ flow_at link level)
 link_below link level other rate falling within other_within keeps =
@@ -248,7 +161,7 @@ all_below (link ∷ links) (level ∷ levels) (other ∷ others) label sized oth
     omega (arith, ints, rest, own)
 
 -- the arcs of a link keep its rate
-keeps_link : (nodes : ℕ) (links : List Link) (levels : List ℕ) (label : ℕ → ℤ) (j level : ℕ) (link : Link)
+pub keeps_link : (nodes : ℕ) (links : List Link) (levels : List ℕ) (label : ℕ → ℤ) (j level : ℕ) (link : Link)
     → ArePlain nodes links → KeepsArcs (link_arc links levels 1) label → slice_get links j ≡ Some link
     → slice_get levels j ≡ Some level → level ≤ room link.steps.items
     → KeepsLink link level (label link.head -ℤ label link.tail)
@@ -290,7 +203,7 @@ labels_are_greatest nodes links levels label plain kept keeps others other_kept 
     let second = kept_tension nodes links others label inside other_kept in
     let whole = all_below links levels others label kept.one_each other_kept.one_each
     (λ j level other link at level_at other_at. record {
-      falling = (plain.each j link at).falling;
+      falling = (plain.each j link at).steps.falling;
       within = kept.within j level link at level_at;
       other_within = other_kept.within j other link at other_at;
       keeps = keeps_link nodes links levels label j level link plain keeps at level_at (kept.within j level link at level_at);

@@ -75,7 +75,7 @@ link_to-near (link ∷ links) j u v apart =
       | inr two ↦ eqb-false link.head u neither two.1
     ])
 
-option_map-same : (o : Option ℕ) → option_map (λ k. 0 + k) o ≡ o
+pub option_map-same : (o : Option ℕ) → option_map (λ k. 0 + k) o ≡ o
 option_map-same None = refl
 option_map-same (Some k) = ap Some (omega arith)
 

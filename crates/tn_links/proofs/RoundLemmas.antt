@@ -63,7 +63,7 @@ is_pushed links lot levels u (v ∷ vs) w cost few within apart off walk =
     two.second cost two.sum_is one rest
 
 pub few_units : (nodes : ℕ) (links : List Link) → ArePlain nodes links → HaveFewUnits links
-few_units nodes links plain j link is = (plain.each j link is).few_units
+few_units nodes links plain j link is = (plain.each j link is).steps.few_units
 
 -- a lot round a cycle of three nodes or more
 round_stepped : (links : List Link) (levels : List ℕ) (lot u v x : ℕ) (vs : List ℕ) (cost : ℤ)

@@ -4,6 +4,7 @@ pub mod Links
 pub mod Flows
 pub mod Lots
 pub mod Near
+pub mod Totals
 pub mod Laws
 pub mod Rounds
 pub mod Shown

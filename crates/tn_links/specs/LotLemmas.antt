@@ -8,7 +8,7 @@ use Rattle.tn_base.specs.Arcs.{AreBetweenNodes, AreSmall, IsAtMost, ListsPredece
 use Rattle.tn_base.specs.Widths.{most_cost}
 use Rattle.tn_links.specs.declared.link.Link.{Link}
 use Rattle.tn_links.specs.declared.links.Neighbour.{Neighbour}
-use Rattle.tn_links.specs.Links.{ArePlain, AreSlight, joins, rise, room}
+use Rattle.tn_links.specs.Links.{ArePlain, AreSingle, AreSlight, joins, rise, room}
 use Rattle.tn_links.specs.Lots.{less_cost, link_arc, lot_cost, more_cost}
 use Rattle.tn_links.specs.Near.{near_from, no_neighbour}
 use Rattle.tn_links.specs.RiseLemmas.{rise_slight}
@@ -127,7 +127,7 @@ pub small-link_arc : (nodes : ℕ) (links : List Link) (levels : List ℕ) (lot 
     → lot ≤ most_lot → AreSmall (link_arc links levels lot) most_cost
 small-link_arc nodes links levels lot plain few a b cost e =
     let arc = arc_of links levels lot a b cost e in
-    lot_small arc.link arc.level lot a cost (plain.each arc.place arc.link arc.link_is).slight few arc.cost_is
+    lot_small arc.link arc.level lot a cost (plain.each arc.place arc.link arc.link_is).steps.slight few arc.cost_is
 
 -- what a node's list has at a place
 pub record IsNear (links : List Link) (v u : ℕ) : Type 0 where
@@ -234,11 +234,6 @@ near_all (first ∷ links) j v u zero link is ends =
 near_all (first ∷ links) j v u (suc place) link is ends =
     later_place first j u (near_from links (suc j) v) (near_all links (suc j) v u place link is ends) (first.tail == v)
     (first.head == v)
-
--- no two links join the same two nodes
-abbrev pub AreSingle : List Link → Type 0
-AreSingle links = (i j u v : ℕ) (a b : Link) → slice_get links i ≡ Some a → slice_get links j ≡ Some b
-    → joins a u v ≡ true → joins b u v ≡ true → i ≡ j
 
 later_single : (link : Link) (links : List Link) → AreSingle (link ∷ links) → AreSingle links
 later_single link links single i k u w a b at_i at_k first second =

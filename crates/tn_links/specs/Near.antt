@@ -1,5 +1,5 @@
 -- Which links a node has.
-use Rattle.std.specs.Prelude.{◌≡◌, ℕ, suc, ◌<◌, List, [], ◌∷◌, length, get_or, ◌==◌, if◌then◌else◌, Option, Some, None, option_map}
+use Rattle.std.specs.Prelude.{◌≡◌, ℕ, suc, ◌<◌, List, [], ◌∷◌, length, get_or, map, Vec, ◌==◌, if◌then◌else◌, Option, Some, None, option_map}
 use Rattle.tn_links.specs.declared.link.Link.{Link}
 use Rattle.tn_links.specs.declared.links.Neighbour.{Neighbour}
 use Rattle.tn_links.specs.Links.{joins}
@@ -25,6 +25,10 @@ link_to (near ∷ rest) v = if near.node == v then Some near.link else link_to r
 -- nobody's neighbour
 abbrev pub no_neighbour : Neighbour
 no_neighbour = record { link = 0; node = 0 }
+
+-- the lists, each with its links
+abbrev pub rows : {A : Type 0} → List (Vec Neighbour A) → List (List Neighbour)
+rows near = map (λ list. list.items) near
 
 -- a list for each node has its links
 pub record AreListed (nodes : ℕ) (links : List Link) (lists : List (List Neighbour)) : Type 0 where

@@ -1,15 +1,19 @@
 //! Links between nodes, whose flows gain by steps, and flows of greatest gain.
 #![tactic(auto)]
 
+mod checks;
+mod gains;
 mod laws;
 mod link;
 mod links;
+mod lists;
 mod lots;
 mod push;
 mod searching;
 mod settling;
 mod shown;
 
+pub use checks::{are_plain, has_steps};
 pub use laws::{cycles_gain_what_they_cost, labels_are_greatest};
 pub use link::{Link, Step};
 pub use links::Links;

@@ -45,7 +45,7 @@ fn added(each: i64, units: u32) -> i128
 }
 
 /// What the first units of the steps add.
-fn rise(steps: &[Step], units: u32) -> i128
+pub(crate) fn rise(steps: &[Step], units: u32) -> i128
     requires { AreSlight steps.now }
     ensures rise { result ≡ rise steps.now units }
     ensures small { IsAtMost result most_rise }
@@ -106,7 +106,7 @@ impl Link {
 }
 
 /// What one number lacks to another.
-fn lost(before: i128, after: i128) -> i128
+pub(crate) fn lost(before: i128, after: i128) -> i128
     requires before { IsAtMost before most_rise }
     requires after { IsAtMost after most_rise }
     ensures { result ≡ before -ℤ after }

@@ -3,13 +3,15 @@
 ghost use Rattle.std.specs.Prelude.{◌≡◌, ◌≢◌, ◌<◌, ◌≤◌, length, map, slice_get, Some, IfOk};
 ghost use Rattle.tn_links.specs.declared.link.Link.{Link};
 ghost use Rattle.tn_links.specs.LotLemmas.{node_near};
-ghost use Rattle.tn_links.specs.Links.{ArePlain, room};
+ghost use Rattle.tn_links.specs.Flows.{IsKeptFlow};
+ghost use Rattle.tn_links.specs.Links.{ArePlain, AreServed, room};
 ghost use Rattle.tn_links.specs.Lots.{lot_cost};
-ghost use Rattle.tn_links.specs.Near.{AreListed, link_between, link_to, near_from};
+ghost use Rattle.tn_links.specs.Near.{AreListed, link_between, near_from, rows};
 ghost use Rattle.tn_cycle.specs.Widths.{most_graph_nodes};
 ghost use Rattle.tn_links.specs.Widths.{most_links, most_lot};
 
 use crate::link::Link;
+use crate::lists::{link_by, lists};
 use std::alloc::Global;
 use tn_base::OutOfMemory;
 
@@ -30,64 +32,34 @@ pub struct Links {
     ghost plain: { ArePlain nodes links.items },
     ghost few: { length links.items ≤ most_links },
     ghost few_nodes: { nodes ≤ most_graph_nodes },
-    ghost listed: { AreListed nodes links.items (map (λ list. list.items) near.items) },
-}
-
-/// The links of a node.
-fn neighbours(alloc: Global, links: &[Link], v: u32) -> Result<Vec<Neighbour>, OutOfMemory>
-    requires { length links.now ≤ most_links }
-    ensures { IfOk result (λ near. near.items ≡ near_from links.now 0 v) }
-{
-    let mut near = Vec::new(alloc);
-    for (j, link) in links.iter().enumerate() {
-        if link.tail == v {
-            near.push(Neighbour {
-                link: j as u32,
-                node: link.head,
-            })?;
-        } else if link.head == v {
-            near.push(Neighbour {
-                link: j as u32,
-                node: link.tail,
-            })?;
-        }
-    }
-    Ok(near)
-}
-
-/// The link by which a node is listed.
-fn link_to(near: &[Neighbour], v: u32) -> Option<u32>
-    ensures { result ≡ link_to near.now v }
-{
-    for one in near {
-        if one.node == v {
-            return Some(one.link);
-        }
-    }
-    None
+    ghost listed: { AreListed nodes links.items (rows near.items) },
 }
 
 impl Links {
-    /// These links between so many nodes. It fails only where memory runs out.
+    /// These links between so many nodes. It fails only where memory runs out; `are_plain` says whether it takes them.
     pub fn new(alloc: Global, nodes: u32, links: Vec<Link>) -> Result<Links, OutOfMemory>
-        requires plain { ArePlain nodes links.items }
-        requires few { length links.items ≤ most_links }
-        requires few_nodes { nodes ≤ most_graph_nodes }
+        requires { AreServed nodes links.items }
         ensures { IfOk result (λ made. (made.nodes ≡ nodes) × (made.links.items ≡ links.items)) }
     {
-        let mut near = Vec::new(alloc);
-        for v in 0..nodes {
-            near.push(neighbours(alloc, &links, v)?)?;
-        }
+        let near = lists(alloc, nodes, &links)?;
         Ok(Links { nodes, links, near })
+    }
+
+    /// The levels at which nothing flows. It fails only where memory runs out.
+    pub fn idle(&self, alloc: Global) -> Result<Vec<u32>, OutOfMemory>
+        ensures kept { IfOk result (λ levels. IsKeptFlow self.now.links.items levels.items) }
+        ensures idle { IfOk result (λ levels. levels.items ≡ map (λ link. link.back) self.now.links.items) }
+    {
+        Ok(self.links.iter().map(|link| link.back).collect(alloc)?)
     }
 
     /// The link that joins two nodes, None where there is none.
     pub(crate) fn between(&self, u: u32, v: u32) -> Option<u32>
-        requires { u < self.now.nodes }
+        requires first { u < self.now.nodes }
+        requires second { v < self.now.nodes }
         ensures { result ≡ link_between self.now.links.items u v }
     {
-        link_to(&self.near[u as usize], v)
+        link_by(&self.near, u, v)
     }
 }
 

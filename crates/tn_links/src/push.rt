@@ -23,7 +23,8 @@ fn level_after(more: bool, level: u32, lot: u32) -> u32
 /// Sends a lot over the link that joins two nodes, from the first one.
 fn step(links: &Links, levels: &mut [u32], from: u32, to: u32, lot: u32)
     requires one_each { length levels.old ≡ length links.now.links.items }
-    requires inside { from < links.now.nodes }
+    requires from { from < links.now.nodes }
+    requires to { to < links.now.nodes }
     ensures { levels.new ≡ stepped links.now.links.items lot levels.old from to }
 {
     match links.between(from, to) {

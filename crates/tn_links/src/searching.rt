@@ -132,37 +132,8 @@ fn broken_end(links: &Links, levels: &[u32], finder: &Finder, j: u32, lot: u32) 
     }
 }
 
-/// Searches at an end of a link, where the labels don't keep one of its arcs. True where a lot was sent.
-fn mend_once(
-    links: &Links,
-    levels: &mut [u32],
-    finder: &mut Finder,
-    before: &mut Finder,
-    others: &mut TradeSet<256>,
-    j: u32,
-    lot: u32,
-) -> bool
-    requires fits { finder.old.nodes ≡ links.now.nodes }
-    requires as_many { before.old.nodes ≡ links.now.nodes }
-    requires labelled { length finder.old.labels ≡ links.now.nodes }
-    requires wide { links.now.nodes ≤ 64 * 256 + 1 }
-    requires kept { IsKeptFlow links.now.links.items levels.old }
-    requires inside { j < length links.now.links.items }
-    requires small { lot ≤ most_lot }
-    ensures fits { finder.new.nodes ≡ links.now.nodes }
-    ensures as_many { before.new.nodes ≡ links.now.nodes }
-    ensures labelled { length finder.new.labels ≡ links.now.nodes }
-    ensures kept { IsKeptFlow links.now.links.items levels.new }
-    ensures gained { result ≡ true
-        → total_gain links.now.links.items levels.old <ℤ total_gain links.now.links.items levels.new }
-{
-    match broken_end(links, levels, finder, j, lot) {
-        Some(node) => search(links, levels, finder, before, others, node, lot),
-        None => false,
-    }
-}
-
-/// The same until the labels keep both arcs.
+/// Searches at an end of a link, where the labels don't keep one of its arcs, until they keep all arcs of that end: what a
+/// search that finds a cycle leaves unkept is at its node, so what was kept before stays kept.
 fn mend(
     links: &Links,
     levels: &mut [u32],
@@ -184,7 +155,9 @@ fn mend(
     ensures labelled { length finder.new.labels ≡ links.now.nodes }
     ensures kept { IsKeptFlow links.now.links.items levels.new }
 {
-    while mend_once(links, levels, finder, before, others, j, lot) {}
+    if let Some(node) = broken_end(links, levels, finder, j, lot) {
+        while search(links, levels, finder, before, others, node, lot) {}
+    }
 }
 
 /// The same for all links.

@@ -4,7 +4,7 @@ use Rattle.std.specs.List.{list_all, list_any}
 
 -- there is room for so many names of firms, and as many of trades
 abbrev pub most_names : ℕ
-most_names = 1024
+most_names = 4096
 
 -- a name has at most so many characters
 abbrev pub most_letters : ℕ

@@ -69,7 +69,7 @@ impl Names {
 
     /// Puts the name of a firm last, unless it is there, and says whether it did. Where it is there, that takes no
     /// memory and changes nothing; neither does anything change where memory runs out. The name keeps the rule for
-    /// names, and fewer than 1,024 names of firms are there.
+    /// names, and fewer than 4,096 names of firms are there.
     pub fn add_firm(&mut self, name: &str) -> Result<bool, OutOfMemory>
         requires named { IsTrue (is_name name.now) }
         requires room { length self.old.firms < most_names }
@@ -85,7 +85,7 @@ impl Names {
 
     /// Puts the name of a trade last, unless it is there, and says whether it did. Where it is there, that takes no
     /// memory and changes nothing; neither does anything change where memory runs out. The name keeps the rule for
-    /// names, and fewer than 1,024 names of trades are there.
+    /// names, and fewer than 4,096 names of trades are there.
     pub fn add_trade(&mut self, name: &str) -> Result<bool, OutOfMemory>
         requires named { IsTrue (is_name name.now) }
         requires room { length self.old.trades < most_names }

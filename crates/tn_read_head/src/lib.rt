@@ -8,4 +8,5 @@ mod refusal;
 mod trades;
 
 pub use listing::read_head;
+pub use names::{name, read_firm_names};
 pub use refusal::DocRefusal;

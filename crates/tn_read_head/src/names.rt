@@ -16,11 +16,7 @@ use tn_said::PlaceStep::Key;
 use tn_said::{FaultKind, PlaceStep, Word};
 
 /// Puts the names of the firms to the names.
-pub(crate) fn read_firm_names(
-    alloc: Global,
-    names: &mut Names,
-    firms: &[Value],
-) -> Result<(), ReadError>
+pub fn read_firm_names(alloc: Global, names: &mut Names, firms: &[Value]) -> Result<(), ReadError>
     requires none { length names.old.firms ≡ 0 }
     requires few { length firms.now ≤ most_firms }
     ensures gives { GivesBeside names.new (λ _. names.new) result
@@ -83,7 +79,7 @@ pub(crate) fn read_trade_name(
 
 /// A text that keeps the rule for names.
 #[tactic(auto, unfolding(crate::specs::Naming::name_at))]
-fn name<'a>(
+pub fn name<'a>(
     alloc: Global,
     value: Option<&'a Value>,
     place: &[PlaceStep],

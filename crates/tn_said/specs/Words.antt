@@ -1,7 +1,7 @@
 -- The names of the members of documents and answers.
 use Rattle.std.specs.Prelude.{ℕ, List, codes}
 use Rattle.tn_said.specs.declared.place.Word.{Word}
-use Rattle.tn_said.specs.declared.place.Word.TheVariants.{Version, Firms, Trades, Arrangement, Outcome, Claim, Note, Edits, Name, Seller, Buyer, Kind, Rows, Amounts, Sets, From, Values, Costs, Gains, Keep, Pairs, On, Prices, Over, Contracts, Answer, Surplus, Firm, Bundle, Gain, X, Y, At, Nodes, Cost, Keeps, Plan}
+use Rattle.tn_said.specs.declared.place.Word.TheVariants.{Version, Firms, Trades, Arrangement, Outcome, Claim, Note, Edits, Name, Seller, Buyer, Kind, Rows, Amounts, Sets, From, Values, Costs, Gains, Keep, Pairs, On, Prices, Over, Contracts, Answer, Surplus, Firm, Bundle, Gain, X, Y, At, Nodes, Cost, Keeps, Plan, Units, Bought, Sold}
 
 -- the name of a member of a document
 abbrev pub word_text : Word → List ℕ
@@ -42,3 +42,6 @@ word_text Nodes = codes "nodes"
 word_text Cost = codes "cost"
 word_text Keeps = codes "keeps"
 word_text Plan = codes "plan"
+word_text Units = codes "units"
+word_text Bought = codes "bought"
+word_text Sold = codes "sold"

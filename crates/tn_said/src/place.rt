@@ -40,6 +40,9 @@ pub enum Word {
     Cost,
     Keeps,
     Plan,
+    Units,
+    Bought,
+    Sold,
 }
 
 impl Word {
@@ -88,6 +91,9 @@ impl Word {
             Word::Cost => "cost",
             Word::Keeps => "keeps",
             Word::Plan => "plan",
+            Word::Units => "units",
+            Word::Bought => "bought",
+            Word::Sold => "sold",
         }
     }
 }

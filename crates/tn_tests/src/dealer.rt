@@ -4,7 +4,7 @@ use crate::asking::{best, row, shape, value};
 use std::alloc::Global;
 use std::test::Fail;
 use tn_base::Side;
-use tn_dealer::{Dealer, Pair, SamePair};
+use tn_dealer::{Dealer, DealerRefusal, Pair};
 
 /// Each of two items that are bought may be sold as each of two.
 fn all_pairs(alloc: Global) -> Result<Dealer, Fail> {
@@ -31,7 +31,7 @@ fn all_pairs(alloc: Global) -> Result<Dealer, Fail> {
             cost: 1
         },
     ]?;
-    Ok(Dealer::new(sides, pairs)?)
+    Ok(Dealer::new(alloc, sides, pairs)?)
 }
 
 // Two items are bought, and sold as two: the cheaper matching of all four costs 2.
@@ -71,7 +71,7 @@ fn one_sale(alloc: Global) -> Result<Dealer, Fail> {
             cost: 2
         },
     ]?;
-    Ok(Dealer::new(sides, pairs)?)
+    Ok(Dealer::new(alloc, sides, pairs)?)
 }
 
 // All four trades have no matching.
@@ -114,6 +114,8 @@ fn the_same_pair(rt: HostRuntime) -> Result<(), Fail> {
             cost: 7
         },
     ]?;
-    assert!(rt; Dealer::new(sides, pairs).err() == Some(SamePair { index: 4 }));
+    assert!(rt;
+        Dealer::new(alloc, sides, pairs).err() == Some(DealerRefusal::SamePair { index: 4 })
+    );
     Ok(())
 }

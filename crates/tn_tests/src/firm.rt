@@ -7,7 +7,6 @@ ghost use Rattle.tn_base.specs.Widths.{most_amount};
 
 use crate::asking::{best, row, value};
 use std::alloc::Global;
-use std::process::Abort;
 use std::test::Fail;
 use tn_base::{Bundle, Side};
 use tn_dealer::{Dealer, Pair};
@@ -46,18 +45,19 @@ fn complements_fail_the_test(rt: HostRuntime) {
 }
 
 /// A buyer of one good or of two, the second of which is worth less beside the other.
-fn buyer(rt: &impl Abort, alloc: Global) -> Result<FirmValue, Fail> {
+fn buyer(alloc: Global) -> Result<FirmValue, Fail> {
     let sides = vec![in alloc; Side::Buy, Side::Buy]?;
     let mut table = RawTable::new(alloc, sides)?;
     add(&mut table, 1, Some(5));
     add(&mut table, 2, Some(4));
     add(&mut table, 3, Some(7));
-    Ok(FirmValue::Table(Table::new(table).expect(rt, "goods are substitutes")))
+    let table = Table::new(table).ok().ok_or("goods are substitutes")?;
+    Ok(FirmValue::Table(table))
 }
 
 #[test]
 fn a_table_is_asked(rt: HostRuntime) -> Result<(), Fail> {
-    let firm = buyer(&rt, rt.alloc())?;
+    let firm = buyer(rt.alloc())?;
     let worths = row(&rt, &firm, 0b01, 0b11);
     assert!(rt; (value(&rt, &firm, 0b11), worths) == (Some(7), [Some(0), Some(7)]));
     Ok(())
@@ -117,7 +117,7 @@ pub(crate) fn dealer(alloc: Global) -> Result<FirmValue, Fail> {
             cost: 2
         },
     ]?;
-    Ok(FirmValue::Dealer(Dealer::new(sides, pairs)?))
+    Ok(FirmValue::Dealer(Dealer::new(alloc, sides, pairs)?))
 }
 
 #[test]

@@ -27,6 +27,8 @@ mod io;
 #[cfg(test)]
 mod laminar;
 #[cfg(test)]
+mod links;
+#[cfg(test)]
 mod local;
 #[cfg(test)]
 mod middle;
@@ -42,5 +44,7 @@ mod stalls;
 mod standard;
 #[cfg(test)]
 mod two_stalls;
+#[cfg(test)]
+mod units;
 #[cfg(test)]
 mod worked_rows;

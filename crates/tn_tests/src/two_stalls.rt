@@ -109,14 +109,28 @@ fn graph_of_two_stalls(rt: HostRuntime) {
     graph.admit(&market, 0, &none, &one, &mut steps);
     let admitted = [graph.cost(0, 2), graph.cost(2, 0)];
     graph.fill(&market, &none, &mut steps);
-    let first = [graph.cost(0, 0), graph.cost(0, 1), graph.cost(0, 2)];
-    let null = [graph.cost(2, 0), graph.cost(2, 1), graph.cost(2, 2)];
-    assert!(rt; admitted == [Some(3), Some(-5)]);
-    assert!(rt; [first, null] == [[None, Some(-2), Some(3)], [Some(-5), Some(-5), None]]);
+    let filled = rows_of(&graph);
     graph.refresh(&market, &none, &one, &both, &mut steps);
-    let first = [graph.cost(0, 0), graph.cost(0, 1), graph.cost(0, 2)];
-    let null = [graph.cost(2, 0), graph.cost(2, 1), graph.cost(2, 2)];
-    assert!(rt; [first, null] == [[None, None, Some(5)], [Some(-3), Some(-5), None]]);
+    let refreshed = rows_of(&graph);
+    drop(graph);
+    assert!(rt;
+        (admitted, filled, refreshed)
+            == (
+                [Some(3), Some(-5)],
+                [[None, Some(-2), Some(3)], [Some(-5), Some(-5), None]],
+                [[None, None, Some(5)], [Some(-3), Some(-5), None]],
+            )
+    );
+}
+
+/// The costs of the arcs from the first node and from null, of a graph with three nodes.
+fn rows_of(graph: &Graph) -> [[Option<i128>; 3]; 2]
+    requires { 2 < graph.now.nodes }
+{
+    [
+        [graph.cost(0, 0), graph.cost(0, 1), graph.cost(0, 2)],
+        [graph.cost(2, 0), graph.cost(2, 1), graph.cost(2, 2)],
+    ]
 }
 
 /// The two nodes of a walk, None where it has more or less.
@@ -219,9 +233,19 @@ fn admits_and_bars_two_stalls(rt: HostRuntime) {
     let barred = session.bar(0, &mut steps);
     let left = [session.admitted().has(0), session.admitted().has(1)];
     let last = [session.on().has(0), session.on().has(1)];
-    assert!(rt; (counts, edited) == ([0, 0], [false, true, false]));
-    assert!(rt; [one, both, [admitted, barred]] == [[true, false], [true; 2], [true; 2]]);
+    let prices = [price, session.price(1)];
+    drop(session);
     assert!(rt;
-        (left, last, [price, session.price(1)]) == ([false, true], [false, true], [-3, -3])
+        (
+            counts,
+            edited,
+            [one, both, [admitted, barred]],
+            (left, last, prices)
+        ) == (
+            [0, 0],
+            [false, true, false],
+            [[true, false], [true; 2], [true; 2]],
+            ([false, true], [false, true], [-3, -3]),
+        )
     );
 }

@@ -4,8 +4,8 @@ use Rattle.tn_links.specs.Flows.{IsKeptFlow}
 use Rattle.tn_links.proofs.GainLemmas.{gain_left}
 use Rattle.tn_links.proofs.searching.mend.Given as goal
 
-abbrev pub invariant-loop : goal.invariant-loop
-invariant-loop l = record {
+abbrev pub invariant-loop-node : goal.invariant-loop-node
+invariant-loop-node l = record {
   fits : l.finder.nodes ≡ l.links.nodes;
   as_many : l.before.nodes ≡ l.links.nodes;
   labelled : length l.finder.labels ≡ l.links.nodes;
@@ -13,5 +13,5 @@ invariant-loop l = record {
 }
 
 -- each lot that is sent gains
-abbrev pub decreases-loop : goal.decreases-loop
-decreases-loop l = gain_left l.links.links.items l.levels
+abbrev pub decreases-loop-node : goal.decreases-loop-node
+decreases-loop-node l = gain_left l.links.links.items l.levels

@@ -12,7 +12,7 @@ lot_cost-requires-clause-slight c =
     let at : slice_get links.links.items c.args.j ≡ Some c.index.result.now =
     slice_get_read links.links.items links.links.len c.args.j c.index.result.now (omega (arith, links.links.ok.0))
     (omega (arith, links.links.ok.0, c.requires.inside)) c.index.ensures in
-    (links.plain.each c.args.j c.index.result.now at).slight
+    (links.plain.each c.args.j c.index.result.now at).steps.slight
 
 pub lot_cost-requires-clause-within : goal.lot_cost-requires-clause-within
 lot_cost-requires-clause-within c =
@@ -20,7 +20,7 @@ lot_cost-requires-clause-within c =
     let at : slice_get links.links.items c.args.j ≡ Some c.index.result.now =
     slice_get_read links.links.items links.links.len c.args.j c.index.result.now (omega (arith, links.links.ok.0))
     (omega (arith, links.links.ok.0, c.requires.inside)) c.index.ensures in
-    let few = (links.plain.each c.args.j c.index.result.now at).few_units in
+    let few = (links.plain.each c.args.j c.index.result.now at).steps.few_units in
     let within = c.requires.within c.index.result.now at in
     omega (arith, few, within)
 

@@ -1,0 +1,8 @@
+-- The files of definitions of this crate.
+pub mod Widths
+pub mod Counts
+pub mod Laminar
+pub mod Markets
+pub mod Tree
+pub mod Laws
+pub mod Outcomes

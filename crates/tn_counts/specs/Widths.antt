@@ -1,0 +1,24 @@
+-- The limits of markets whose trades have units.
+use Rattle.std.specs.Prelude.{ℕ, ◌*◌, ◌^◌}
+
+-- the most firms, trades and sets of all firms
+abbrev pub most_unit_firms : ℕ
+most_unit_firms = 1024
+
+abbrev pub most_unit_trades : ℕ
+most_unit_trades = 4096
+
+abbrev pub most_count_sets : ℕ
+most_count_sets = 4096
+
+-- all trades together have at most so many units
+abbrev pub most_market_units : ℕ
+most_market_units = 2 ^ 20
+
+-- an amount or what a step adds is at most so much in size, for a unit
+abbrev pub most_unit_amount : ℕ
+most_unit_amount = 2 * 10 ^ 7
+
+-- more units than flow over any link, both ways
+abbrev pub unbounded : ℕ
+unbounded = 2 ^ 22

@@ -1,0 +1,6 @@
+-- The files of lemmas of this crate.
+pub mod ListLemmas
+pub mod AroundLemmas
+pub mod BuildLemmas
+pub mod ConstantLemmas
+pub mod SolveLemmas

@@ -1,0 +1,11 @@
+//! Laminar markets whose trades have units, as links: their equilibria, and best counts at given prices.
+#![tactic(auto)]
+
+mod around;
+mod best;
+mod build;
+mod settled;
+mod solve;
+
+pub use best::{BestCounts, best_counts};
+pub use solve::{Solved, solve_market};
