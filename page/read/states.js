@@ -78,8 +78,8 @@ async function linesIn(ask, network, {on, prices}) {
 
 /**
  * By how much the greatest surplus of a market falls without each firm and each trade that is there, as
- * `{firms, trades}`, each a Map from names to numbers. It is asked in as few sessions as their edits go into; null where
- * there is no session. Throws NoAnswer where there would be too many edits.
+ * `{firms, trades}`, each a Map from names to numbers, and beside them as `nothing` what no trade at all is worth to each firm. It is
+ * asked in as few sessions as their edits go into; null where there is no session. Throws NoAnswer where there would be too many edits.
  */
 export async function contributions(ask, network, before) {
     const base = [ALL, ...before], most = Math.max(1, Math.floor((FEW_EDITS - base.length) / 2));
@@ -91,7 +91,8 @@ export async function contributions(ask, network, before) {
         const [whole, ...states] = said.edits.slice(base.length - 1);
         part.forEach(([does, name], j) => found[does].set(name, whole.surplus - states[2 * j].surplus));
     }
-    return {firms: found.leave, trades: found.bar};
+    const lines = await linesAt(ask, network, []) ?? new Map();
+    return {firms: found.leave, trades: found.bar, nothing: new Map([...lines].map(([name, {worth}]) => [name, worth]))};
 }
 
 /** The edits that take away one firm that is there, or one trade that can be used. */

@@ -1,1 +1,0 @@
-"""What tools/none does, by files."""
