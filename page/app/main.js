@@ -1,27 +1,33 @@
 // The page: a network to look at and guess with, its document, and what the program answers.
-import {speakOf} from "../words/labels.js";
-import {say} from "../words/say.js";
+import {NoAnswer, readAnswer} from "../read/answer.js";
+import {say, speakOf} from "../words/say.js";
 import {readyEditor, showEditor} from "./document/editor.js";
 import {networkOf, Store} from "./document/state.js";
 import {showLesson} from "./exercise/lesson.js";
 import {Marking, showResults} from "./exercise/results.js";
+import {Auctions, showAuction} from "./auction/auction.js";
 import {readyBuild, showBuild} from "./form/build.js";
 import {readyClaim, showClaim} from "./form/claim.js";
 import {showFirms} from "./network/firms.js";
 import {handle} from "./network/hand.js";
+import {readyHints} from "./network/hint.js";
 import {readyNudge, showNudge} from "./network/nudge.js";
 import {showPath, trace} from "./network/path.js";
 import {showScene} from "./network/scene.js";
+import {readyTogether, showTogether} from "./network/together.js";
 import {readyTrades, showTrades, typePrice} from "./network/trades.js";
 import {Ended, inText, NoAnswerCame, Program} from "./program/ask.js";
 import {Guesses} from "./program/guess.js";
 import {compiled, partOf} from "./program/parts.js";
-import {bytesIn, isDocument} from "./sharing/link.js";
+import {bytesIn, isDocument, resultsIn} from "./sharing/link.js";
 import {bind} from "./shell/controls.js";
+import {bindHelp} from "./shell/help.js";
 import {speakFirst} from "./shell/language.js";
+import {bindMeanings} from "./shell/meanings.js";
 import {part} from "./shell/page.js";
 import {showShell} from "./shell/shell.js";
-import {bindLanguage, tellPage} from "./shell/texts.js";
+import {bindLanguage, sayAgain, tellPage} from "./shell/texts.js";
+import {bindWays} from "./shell/ways.js";
 import {shownOf} from "./told/answer.js";
 import {showAnswers} from "./told/answers.js";
 import {showStory} from "./told/story.js";
@@ -48,6 +54,17 @@ async function askNow(program) {
     }
 }
 
+/** What the program answers to words for a document, as plain data; null where there is a newer question, or none came. */
+async function saidTo(program, words, {bytes: asked} = store.value.document) {
+    try {
+        const {bytes} = await program.turn()(words, asked);
+        return readAnswer(new TextDecoder().decode(bytes));
+    } catch (error) {
+        if (error instanceof Ended || error instanceof NoAnswerCame || error instanceof NoAnswer) return null;
+        throw error;
+    }
+}
+
 /** Says again what was answered to the command, in the language that is spoken. */
 async function tellAgain(program) {
     const {answer, run} = store.value;
@@ -60,14 +77,20 @@ async function tellAgain(program) {
     }
 }
 
-/** Opens the document in the address; where there is none that can be read another one, which may be null. */
+/** Opens the document in the address; where there is none that can be read another one, which may be null. A result is one more. */
 async function openAddress(other) {
+    const results = await resultsIn(location.hash);
+    if (results.length > 0) {
+        if (other !== null) store.act("opened", ...other);
+        return store.act("resulted", results);
+    }
     const isThere = isDocument(location.hash), bytes = isThere ? await bytesIn(location.hash).catch(() => null) : null;
     if (bytes !== null) store.act("opened", say("page.from_link"), bytes);
     else if (other !== null) store.act("opened", ...other);
-    if (!isThere || bytes !== null) return;
+    if (!isThere || bytes !== null) return undefined;
     part("notice").hidden = false;
     part("notice").textContent = say("link.broken");
+    return undefined;
 }
 
 /** The examples in their groups; what stands often in them is a short letter each. */
@@ -82,10 +105,12 @@ function show(value) {
     showVerdict(value);
     showStory(value);
     showWhatIf(value);
+    showAuction(value);
     showScene(value);
     showNudge(value);
     showFirms(value);
     showTrades(value);
+    showTogether(value);
     showPath(value);
     showEditor(value);
     showAnswers(value);
@@ -104,23 +129,30 @@ async function start() {
     const documents = documentsOf(JSON.parse(partOf("documents")));
     readyEditor(store);
     readyTrades(store);
+    readyTogether(store);
     readyNudge(store);
     readyClaim(store);
     readyBuild(store);
     handle(store, typePrice);
-    bind(store, documents, {ask: () => askNow(program), end: () => program.end()});
+    readyHints();
+    bindMeanings();
+    const asker = new Program(module, partOf("worker"));
+    bind(store, documents, {ask: () => askNow(program), end: () => program.end(), said: (words, of) => saidTo(asker, words, of)});
     bindLanguage(store, () => tellAgain(program));
     part("version").textContent = await inText(program.turn())(["--version"], "");
     globalThis.market = Object.freeze({
         /** For the console, and for tests: `market.ask(["solve"], bytes)` is a promise of `{status, bytes, ms}`. */
         ask: (words, bytes) => program.turn()(words, bytes),
     });
-    store.watch(({document}) => speakOf(networkOf(document)));
+    store.watch(({document, view}) => speakOf(networkOf(document), view.people) && sayAgain());
     store.watch(show);
     new Guesses(store, guesser);
     new Marking(store, marker);
+    new Auctions(store, new Program(module, partOf("worker")));
     store.watch(() => trace(store, tracer));
     bindWhatIf(store);
+    bindHelp(store);
+    bindWays(store);
     new Suppositions(store, new Program(module, partOf("worker")));
     addEventListener("hashchange", () => openAddress(null));
     new ResizeObserver(() => showScene(store.value)).observe(part("stage"));

@@ -151,20 +151,20 @@ def label(trade_ends: str) -> str:
 
 def tries(page: Bench, program: str | None):
     """Each as a name, and whether it is so."""
-    for part in (tries_to_guess, tries_by_finger, tries_of_refusals, tries_of_labels, tries_of_own_numbers, tries_of_undo, tries_to_solve, tries_of_ranges, tries_of_what_goes, tries_of_complements, tries_of_reasons,
-                 tries_of_first_steps, tries_to_sign, tries_of_claims, tries_of_the_text, tries_to_open, tries_of_versions, tries_to_print, tries_of_files, tries_of_size, tries_of_ill_will):
+    for part in (tries_to_guess, tries_by_finger, tries_of_refusals, tries_of_labels, tries_of_own_numbers, tries_of_ways, tries_of_undo, tries_to_solve, tries_of_ranges, tries_of_what_goes, tries_of_complements, tries_of_no_prices, tries_of_all_who_object, tries_of_reasons,
+                 tries_of_first_steps, tries_to_sign, tries_of_all_who_drop, tries_of_claims, tries_of_the_text, tries_to_open, tries_of_versions, tries_to_print, tries_of_files, tries_of_size, tries_of_ill_will):
         yield from part(page, program)
 
 
 def tries_to_guess(page: Bench, program: str | None):
     page.open("used-cars.json", look.example("used-cars.json"))
     first, drawn = page.text(), page.drawn()
-    yield "the used cars are an equilibrium", page.guess().endswith("An equilibrium: every firm is content, and the worths sum to 10.")
+    yield "the used cars are an equilibrium", page.guess().endswith("An equilibrium: every person is content, and the worths sum to 10.")
     yield "each firm and each trade is drawn", len(drawn["firms"]) == 6 and len(drawn["lanes"]) == 10 and len(drawn["labels"]) == 10
     yield "sellers stand on the left", all(drawn["firms"][left]["x"] < drawn["firms"][right]["x"] for left, right in [("O1", "D"), ("O2", "D"), ("D", "B1"), ("D", "B3")])
     yield "what is on is told", [name for name, lane in drawn["lanes"].items() if lane["isOn"]] == [name for name in drawn["lanes"] if name in ("o1d", "db1", "o2b2")]
     page.click(label("O1 B1"))
-    yield "a click turns a trade on", page.guess().endswith("4 of 6 firms are content.")
+    yield "a click turns a trade on", page.guess().endswith("4 of 6 people are content.")
     yield "by a change of the text at one place", page.text() == first.replace('"on":["o1d","db1","o2b2"]', '"on":["o1d","db1","o2b2","o1b1"]')
     firms = page.drawn()["firms"]
     yield "who objects has a sign and a word", all("\u2717" in firms[name]["shown"] and "objects" in firms[name]["says"] for name in ("O1", "B1"))
@@ -180,7 +180,7 @@ def tries_to_guess(page: Bench, program: str | None):
     page.press("ArrowUp")
     yield "an arrow key makes a price greater", page.guess() != "" and '["o1d",9]' in page.text() and page.focused() == "lane:O1 D"
     page.press("1", "0")
-    yield "a price is typed", page.guess().endswith("5 of 6 firms are content.") and page.text() == first.replace('["o1d",8]', '["o1d",10]') and page.focused() == "price:o1d"
+    yield "a price is typed", page.guess().endswith("5 of 6 people are content.") and page.text() == first.replace('["o1d",8]', '["o1d",10]') and page.focused() == "price:o1d"
     line = asked(page, program, ["firms"], page.text())["firms"][2]
     cells = page.value("[...document.querySelectorAll('#firms tbody tr')[2].cells].slice(1).map(({textContent}) => textContent)")
     wanted = [", ".join(line["has"]), str(line["worth"]), str(line["utility"]), ", ".join(line["best"]), str(line["gain"])]
@@ -213,7 +213,7 @@ def tries_by_finger(page: Bench, program: str | None):
     page.press("Control+z")
     yield "which is taken back as one change", ["o1b1", 8] in json.loads(page.text())["arrangement"]["prices"]
     page.click("#tab-whatif")
-    yield "in a what-if there are none", page.value("getComputedStyle(document.getElementById('nudge')).visibility") == "hidden"
+    yield "in a what-if there are none", page.value("getComputedStyle(document.getElementById('nudge')).display") == "none"
     page.click("#tab-guess")
     small = page.value("[...document.querySelectorAll('input, select, textarea')].filter((each) => parseFloat(getComputedStyle(each).fontSize) < 16).map(({id}) => id)")
     yield f"no field's letters are so small that a telephone zooms {small}", small == []
@@ -297,7 +297,7 @@ def tries_of_labels(page: Bench, program: str | None):
     page.open("used-cars.json", look.example("used-cars.json"))
 
 
-OWN = {"O1": "sells from 4", "D": "passes one on", "B1": "pays up to 9 to 12"}
+OWN = {"O1": "sells from 4", "D": "passes one on", "B1": "pays up to 9\u201312"}
 
 
 def tries_of_own_numbers(page: Bench, program: str | None):
@@ -306,18 +306,45 @@ def tries_of_own_numbers(page: Bench, program: str | None):
     page.guess()
     drawn = page.drawn()["firms"]
     yield "each firm's own numbers stand in its box", all(says in drawn[name]["shown"] for name, says in OWN.items())
-    yield "and are heard", "pays up to 9 to 12" in drawn["B1"]["says"]
+    yield "and are heard", "pays up to 9\u201312" in drawn["B1"]["says"]
     whole = json.loads(page.text())
     trades = {firm: [trade["name"] for trade in whole["trades"] if firm in (trade["seller"], trade["buyer"])] for firm in ("O1", "B1", "B2")}
     for firm, names in trades.items():
         worths = sorted(abs(worth(page, program, page.text(), firm, [name])) for name in names)
-        wanted = str(worths[0]) if worths[0] == worths[-1] else f"{worths[0]} to {worths[-1]}"
+        wanted = str(worths[0]) if worths[0] == worths[-1] else f"{worths[0]}\u2013{worths[-1]}"
         yield f"those of {firm} are what the program says of its trades alone", wanted in drawn[firm]["shown"]
     page.click("#own")
     drawn = page.drawn()["firms"]
     yield "a button hides them", not any("pays" in firm["shown"] + firm["says"] for firm in drawn.values())
     page.click("#own")
     yield "and shows them again", "sells from 4" in page.drawn()["firms"]["O1"]["shown"]
+    page.focus("firm:B1")
+    page.press("Enter")
+    yield "a chosen firm says in plain words what it has, and all of its numbers", page.says("own-told") == "B1 has what is worth 12 to them, pays 11 and gains 1. Own numbers: pays up to 9\u201312, at most 1."
+
+
+def tries_of_ways(page: Bench, program: str | None):
+    """An easy page, people or firms, words that are explained, and what the buttons do."""
+    seen = "document.getElementById(arguments[0]).getClientRects().length"
+    page.click("#tab-document")
+    page.click("#easy")
+    yield "an easy page hasn't the views of the format", [page.value(seen, f"tab-{name}") for name in ("guess", "claim", "document", "answer")] == [1, 0, 0, 0]
+    yield "and leaves one of them", page.value("document.getElementById('tab-guess').getAttribute('aria-selected')") == "true"
+    yield "a link says so", page.link().endswith("&easy")
+    page.click("#linked-close")
+    page.click("#easy")
+    yield "and it is as before", page.value(seen, "tab-claim") == 1
+    page.click("#verdict .term")
+    yield "a word says what it means", page.says("meaning").startswith("Equilibrium: ") and page.value(seen, "meaning") == 1
+    page.press("Escape")
+    page.click("#help")
+    yield "each button is explained that is there", page.value("[...document.querySelectorAll('#help-controls dd')].length") >= 20 and "any prices for the trades" in page.says("help-controls")
+    page.browser.run("const people = document.getElementById('people'); people.value = 'firms'; people.dispatchEvent(new Event('change'))")
+    yield "people are called firms where somebody wants it", page.guess().endswith("every firm is content, and the worths sum to 10.") and page.value("document.querySelector('#firms th').textContent") == "Firm"
+    page.browser.run("const people = document.getElementById('people'); people.value = ''; people.dispatchEvent(new Event('change'))")
+    yield "and else as the document says", page.guess().endswith("every person is content, and the worths sum to 10.")
+    page.press("Escape")
+    yield "the help is closed by a key", page.value(seen, "help-panel") == 0
 
 
 def tries_of_undo(page: Bench, program: str | None):
@@ -491,7 +518,7 @@ def tries_of_reasons(page: Bench, program: str | None):
     drawn = page.drawn()
     yield "a click in the list goes to a step", page.says("told") == steps[1] and page.says("story-place") == "Step 2 of 4"
     yield "its trades are marked in the network", [name for name, lane in drawn["lanes"].items() if "what this step changes" in lane["says"]] == ["db1", "db3"]
-    yield "and its firms have what it costs them", "no cost" in drawn["firms"]["D"]["shown"] and f"costs {cost}" in drawn["firms"]["B3"]["shown"]
+    yield "and its firms have what it costs them", "no cost" in drawn["firms"]["D"]["says"] and f"costs {cost}" in drawn["firms"]["B3"]["says"]
     page.browser.run("document.getElementById('story-next').focus()")
     page.press("Enter")
     yield "Enter on Next goes on", page.says("told") == steps[2]
@@ -524,6 +551,63 @@ def tries_of_reasons(page: Bench, program: str | None):
     page.click("#tab-guess")
 
 
+def tries_of_no_prices(page: Bench, program: str | None):
+    """Complements: what is said above the network, and the shares or the prices that show whether there are prices."""
+    for name, is_none in (("no-clearing-prices.json", True), ("lesson/5-complements.json", True), ("complements.json", False)):
+        document = json.loads(look.example(name))
+        page.open(name, json.dumps({key: document[key] for key in ("version", "firms", "trades")}).encode())
+        page.click("#tab-guess")
+        page.click("#solve")
+        page.wait_for("reason", "answered")
+        said = page.says("verdict")
+        yield f"{name}: goods are complements", said.startswith("These goods are complements for ") and ("no prices content all" in said) == is_none
+        if is_none:
+            yield f"{name}: bundles and shares are drawn", page.value("document.querySelectorAll('#reason-picture svg').length") == 2
+            page.click("#none-claim")
+            page.wait_for("decided", "answered", "fault")
+            said = asked(page, program, ["replay"], page.text())
+            yield f"{name}: the shares are claimed, and replay decides it", said == {"answer": "valid"} and json.loads(page.text())["claim"]["answer"] == "none"
+            page.click("#tab-sign")
+            yield f"{name}: nothing is signed", judged(page).startswith(("Nothing is signed", "These goods are complements"))
+        else:
+            page.click("#reason-take")
+            yield f"{name}: prices are taken as the guess", page.guess().startswith("\u2713")
+        page.click("#tab-guess")
+
+
+# Waits until the document has these contracts.
+SIGNED = """
+const [wanted] = arguments, now = () => JSON.parse(document.getElementById("text").value).outcome?.contracts;
+return new Promise((done) => {
+    const look = () => (JSON.stringify(now()) === JSON.stringify(wanted) ? done() : setTimeout(look, 20));
+    look();
+});"""
+
+
+def tries_of_all_who_object(page: Bench, program: str | None):
+    page.open("houses.json", look.example("houses.json"))
+    page.click("#tab-guess")
+    page.guess()
+    page.type(with_arrangement(page.text(), []))
+    page.guess()
+    count = len([line for line in asked(page, program, ["firms"], page.text())["firms"] if line["gain"] != 0])
+    page.click("#all-objects")
+    items = page.value("[...document.querySelectorAll('#objectors button')].map(({dataset}) => dataset.firm)")
+    yield "all who object are listed at once", len(items) == count > 1
+    page.click("#objectors button")
+    yield "and each is gone to", page.value("document.querySelector('#firms .chosen [data-firm]').dataset.firm") == items[0]
+    page.click("#all-objects")
+    ranges = asked(page, program, ["range"], page.text())
+    page.click("#tab-sign")
+    for side, button in (("low", "#sign-low"), ("high", "#sign-high")):
+        page.click(button)
+        bounds = {each["trade"]: each[side] for each in ranges["ranges"]}
+        page.browser.run(SIGNED, [[trade, bounds[trade]] for trade in ranges["on"]])
+        yield f"signed at the {side}est prices it lasts", judged(page).startswith("\u2713")
+    page.click("#sign-back")
+    yield "and goes back to a guess", page.guess().startswith("\u2713")
+
+
 def judged(page: Bench) -> str:
     """Waits for the answer to what is signed, and answers what is said of it."""
     page.wait_for("judged", "answered", "fault", "none", "trouble")
@@ -549,14 +633,14 @@ def tries_to_sign(page: Bench, program: str | None):
     judged(page)
     page.focus("firm:B1")
     page.press("Enter")
-    yield "a firm says what it has by what is signed", page.says("told") == "B1 buys db1 from D at 11: its utility is 1."
+    yield "a firm says what it has by what is signed", page.says("told") == "B1 buys db1 from D at 11: their utility is 1."
     page.focus("lane:D B1")
     page.press("ArrowUp", "ArrowUp")
-    yield "the first firm that drops a contract is told", judged(page).endswith("It isn't kept: B1 would rather drop its contracts.")
-    yield "with what it has and would have", "has -1" in page.drawn()["firms"]["B1"]["shown"] and "then 0" in page.drawn()["firms"]["B1"]["shown"]
+    yield "the first firm that drops a contract is told", judged(page).endswith("It isn't kept: B1 would rather drop their contracts.")
+    yield "with what it has and would have", "has -1, then 0" in page.drawn()["firms"]["B1"]["says"]
     page.press("1", "0")
     yield "a price is typed, and a chain blocks what is signed", judged(page).endswith("one other contract blocks it.") and page.focused() == "price:db1"
-    yield "the firms of the chain have what they would have", page.drawn()["firms"]["D"]["shown"].endswith("has 1then 3/2") and page.drawn()["firms"]["B3"]["shown"].endswith("has 0then 1/2")
+    yield "the firms of the chain have what they would have", all(says in page.drawn()["firms"][name]["says"] for name, says in (("D", "has 1, then 3/2"), ("B3", "has 0, then 1/2")))
     before = page.text()
     page.drag("#denominator", 0)
     page.press("Control+a", "2", "Tab")
@@ -602,6 +686,21 @@ def decided(page: Bench) -> str:
     """Waits for the answer to the claim, and answers what is said of it."""
     page.wait_for("decided", "answered", "fault", "none", "trouble")
     return page.says("decided")
+
+
+def tries_of_all_who_drop(page: Bench, program: str | None):
+    """All who would drop something of what is signed are counted, marked and stepped through."""
+    contracts = '"outcome":{"over":1,"contracts":[["o1d",3],["db1",13],["o2b2",9]]},"arrangement":'
+    page.open("used-cars.json", example("used-cars.json").replace('"arrangement":', contracts, 1).encode())
+    page.click("#tab-sign")
+    yield "all who would drop something are counted", judged(page).endswith("2 people would rather drop contracts.")
+    firms = page.drawn()["firms"]
+    yield "and marked, with what they have and could have", [firms[name]["mood"] for name in ("O1", "O2", "B1")] == ["objects", "unknown", "objects"] and "has -1" in firms["O1"]["says"]
+    page.click("#objects")
+    first = page.says("told")
+    page.click("#objects")
+    yield "and stepped through", first.startswith("O1 sells") and page.says("told").startswith("B1 buys") and "would rather keep nothing" in page.says("told")
+    page.click("#tab-guess")
 
 
 def tries_of_claims(page: Bench, program: str | None):
@@ -1012,14 +1111,14 @@ def tries_of_access(page: Bench):
     yield "firms are in the accessibility tree", firms >= {"O1", "O2", "D", "B1", "B2", "B3"}
     trades = {name.split(" ")[1].rstrip(",") for name in names if name.startswith("Trade ") and " at " in name}
     yield "trades with prices are", trades == {trade["name"] for trade in json.loads(page.text())["trades"]}
-    yield "the verdict is", any("No equilibrium: 5 of 6 firms are content." in name for name in names)
+    yield "the verdict is", any(": 5 of 6 firms are" in name for name in names) and any("equilibrium" in name for name in names)
     yield f"all that is pressed or filled in has a name {unnamed(nodes)}", unnamed(nodes) == []
     page.open("used-cars-bypassed.json", look.example("used-cars-bypassed.json"))
     judged(page)
     nodes = tree_of(page)
     names = names_in(nodes)
     yield "and so has what is signed", unnamed(nodes) == [] and "o1b1 is signed" in names and "Trade o1b1, from O1 to B1, at 7: signed" in names
-    yield "what a firm has and would have is told", any(name.startswith("Firm O1: has 3, then 4. It sells from 4") for name in names)
+    yield "what a firm has and would have is told", any(name.startswith("Firm O1: has 3, then 4. Own numbers: sells from 4") for name in names)
     page.click("#reason-claim")
     decided(page)
     nodes = tree_of(page)
@@ -1029,7 +1128,7 @@ def tries_of_access(page: Bench):
     yield "and all of the form", unnamed(nodes) == [] and {"Amount of o1b1", "Trade o1b1 from", "Add a trade"} <= set(names_in(nodes))
     page.open("exercise.json", b'{"version":1,"firms":[],"trades":[],"note":{"exercise":"None","goal":"equilibrium"}}')
     nodes = tree_of(page)
-    yield "and all of an exercise", unnamed(nodes) == [] and {"Your name", "Save the result"} <= set(names_in(nodes))
+    yield "and all of an exercise", unnamed(nodes) == [] and {"Your name, a nickname or a number", "Save the result"} <= set(names_in(nodes))
     page.open("used-cars.json", look.example("used-cars.json"))
     page.browser.forced_colours(True)
     ground = page.value("getComputedStyle(document.getElementById('stage')).backgroundColor")

@@ -45,7 +45,7 @@ def tries(page: bench.Bench, program: str | None, address: str):
     yield "a link has the language", page.value("document.documentElement.lang") == "de" and page.guess().startswith("✓ Ein Gleichgewicht")
     yield "with the name of the page", page.value("document.title") == "market: Handelsnetze, gelöst und beurteilt"
     yield f"nothing is left in English {english_in(page)[:4]}", english_in(page) == []
-    for name, is_so in lesson.tries_of_the_hour(page, program, "de"):
+    for name, is_so in (*lesson.tries_of_the_hour(page, program, "de"), *lesson.tries_of_auctions(page, program)):
         yield f"in German, {name}", is_so
     for part in (tries_of_views, tries_of_a_change, tries_of_links):
         yield from part(page, address)

@@ -9,12 +9,12 @@ from base64 import b64encode
 from pathlib import Path
 
 import look
-from bench import CHOSEN, KEEP, OFFERED, REFUSED, STEPS, Bench, asked, judged, label
+from bench import CHOSEN, KEEP, OFFERED, REFUSED, STEPS, Bench, asked, judged, label, sheets_in
 
 
 def tries(page: Bench, program: str | None):
     """Each as a name, and whether it is so."""
-    for part in (tries_to_build, tries_of_exercises, tries_to_leave, tries_of_the_hour):
+    for part in (tries_to_build, tries_of_exercises, tries_of_result_links, tries_to_leave, tries_of_auctions, tries_of_the_hour):
         yield from part(page, program)
 
 
@@ -110,7 +110,7 @@ THERE = "return [...document.querySelectorAll('button, select, input')].filter((
 ROWS = "return [...document.querySelectorAll('#results tbody tr')].map((row) => [...row.cells].map(({textContent}) => textContent));"
 
 SOLVING = {"solve", "wonder", "ranges", "buyers-best", "sellers-best", "tab-whatif", "tab-claim", "tab-build", "tab-document", "tab-answer", "run", "reason-take", "reason-claim",
-           "sign-guess", "examples", "new", "kept-open"}
+           "auction", "sign-low", "sign-high", "sign-back", "none-claim", "sign-guess", "examples", "new", "kept-open"}
 
 
 def to_exercise(page: Bench, title: str, goal: str) -> str:
@@ -146,7 +146,7 @@ def tries_of_exercises(page: Bench, program: str | None):
     page.press("ArrowRight")
     yield "nor by keys", page.value("document.activeElement.id") == "tab-guess" and not set(page.browser.run(THERE)) & SOLVING
     yield "the page says who can find the solution", "Who reads the file" in page.says("exercise")
-    yield "objections are told", page.guess().endswith("firms are content.") and page.value("!document.getElementById('objects').disabled")
+    yield "objections are told", page.guess().endswith("people are content.") and page.value("!document.getElementById('objects').disabled")
     first = saved_result(page, "Lena")
     page.click(label("Ada Cleo"))
     page.drag(label("Ada Cleo"), -32)
@@ -173,15 +173,15 @@ def tries_of_exercises(page: Bench, program: str | None):
     page.wait_for("results", "answered")
     rows, content = page.browser.run(ROWS), asked(page, program, ["firms"], given)["content"]
     yield "many results are told in a table, each as the program decides it", rows == [
-        ["Lena", "One good", f"\u2717 no: {content} of 4 firms are content", "0", "as given"], ["Max", "One good", "\u2713 yes", "6", "as given"],
-        ["=Mo", "One good", "\u2717 no: firms or trades were changed", "6", "changed"], ["Ida", "To last", "\u2713 yes", "3", "not compared"],
+        ["Lena", "One good", f"\u2717 no: {content} of 4 people are content", "0", "as given"], ["Max", "One good", "\u2713 yes", "6", "as given"],
+        ["=Mo", "One good", "\u2717 no: people or trades were changed", "6", "changed"], ["Ida", "To last", "\u2713 yes", "3", "not compared"],
         ["Jon", "none", "\u2717 it isn't of an exercise", "?", "not compared"]]
     yield "and counted", page.says("results-says") == "5 results, 2 reached."
     page.click("#results-csv")
     table = page.browser.run(OFFERED)[0]
-    yield "they are offered as rows, none of which begins a formula", table[0] == "results.csv" and "\n'=Mo,One good,\u2717 no: firms or trades were changed,6,changed\n" in table[1]
+    yield "they are offered as rows, none of which begins a formula", table[0] == "results.csv" and "\n'=Mo,One good,\u2717 no: people or trades were changed,6,changed\n" in table[1]
     page.click('[data-result="0"]')
-    yield "a click shows what a pupil saw", page.guess().endswith("firms are content.") and page.text() == given.strip()
+    yield "a click shows what a pupil saw", page.guess().endswith("people are content.") and page.text() == given.strip()
     page.click("#tab-results")
     page.click('[data-result="1"]')
     yield "with its tries", page.guess().startswith("\u2713") and page.says("tries") == "6 tries"
@@ -204,6 +204,95 @@ def tries_of_exercises(page: Bench, program: str | None):
     page.browser.run("history.replaceState(null, '', location.pathname)")
     page.open("used-cars.json", look.example("used-cars.json"))
     page.click("#tab-guess")
+
+
+def result_link(page: Bench, name: str, is_named: bool) -> str:
+    """The link of what a pupil has."""
+    page.drag("#pupil", 0)
+    page.press("Control+a", *name)
+    if page.value("document.getElementById('result-named').checked") != is_named:
+        page.click("#result-named")
+    page.browser.run("document.documentElement.dataset.linked = 'false'")
+    page.click("#result-link")
+    page.wait_for("linked", "true")
+    return page.value("document.getElementById('fragment').value")
+
+
+PUT_IN = """
+const field = document.getElementById("result-links");
+field.value = arguments[0];
+field.dispatchEvent(new Event("change", {bubbles: true}));"""
+
+
+def tries_of_result_links(page: Bench, program: str | None):
+    """Results as links, which have a name only where that is chosen, and what a class guessed as a diagram."""
+    page.open("1-one-good.json", look.example("lesson/1-one-good.json"))
+    given = to_exercise(page, "One good", "equilibrium")
+    page.click("#maker-try")
+    page.guess()
+    first = result_link(page, "Lena", False)
+    page.focus("lane:Ada Cleo")
+    page.press("6", "1")
+    page.guess()
+    second = result_link(page, "Max", True)
+    page.click("#linked-close")
+    page.click("#exercise-leave")
+    page.guess()
+    page.click("#make")
+    page.browser.run(PUT_IN, f"{first}\n{second} nothing")
+    page.wait_for("results", "answered")
+    rows = page.browser.run(ROWS)
+    yield "links of results are opened, with the name that was chosen to be there", [row[1] for row in rows] == ["One good", "One good"] and rows[1][0] == "Max" and "Lena" not in rows[0][0]
+    yield "each decided by the program", rows[0][2].startswith("\u2717 no:") and "Lena" not in first
+    page.click("#results-draw")
+    page.browser.run("return new Promise((done) => { const look = () => document.querySelector('#results-picture svg') ? done() : setTimeout(look, 20); look(); });")
+    drawn = page.value("[...document.querySelectorAll('#results-picture [data-trades]')].map((row) => [row.dataset.trades, row.querySelectorAll('circle').length])")
+    yield "what was guessed is drawn for each trade", len(drawn) == len(json.loads(given)["trades"]) and dict(map(tuple, drawn))["ada-cleo"] == 2
+    page.browser.run(PUT_IN, "https://example.org/#3.abc")
+    yield "what is no such link is told", page.browser.run("return new Promise((done) => setTimeout(() => done(document.getElementById('result-links-says').textContent), 200));") == "This is no link of a result."
+    page.click("#results-forget")
+    page.browser.run("location.hash = arguments[0]", second[second.index("#"):])
+    page.wait_for("results", "answered")
+    yield "and one in the address is one more result", [row[0] for row in page.browser.run(ROWS)] == ["Max"]
+    page.browser.run("history.replaceState(null, '', location.pathname)")
+    page.click("#results-forget")
+    page.click("#maker-close")
+    page.open("used-cars.json", look.example("used-cars.json"))
+    page.click("#tab-guess")
+
+
+def auctioned(page: Bench) -> str:
+    """Plays an auction to its end, and answers what is said there."""
+    page.click("#auction")
+    page.wait_for("auction", "there", "refused")
+    page.click("#auction-play")
+    page.wait_for("auction", "ended", "refused")
+    return page.says("auction-end")
+
+
+def tries_of_auctions(page: Bench, program: str | None):
+    """Auctions by the button: of houses, of the helpers of exercise 4, and where there is none; and one price for several trades."""
+    for name, prices in (("lesson/4-substitutes.json", {"ann": 3, "ben": 3, "cai": 2}), ("houses.json", None)):
+        page.open(name, look.example(name))
+        page.click("#tab-guess")
+        said = auctioned(page)
+        at = json.loads(page.text())["arrangement"]
+        verdict = asked(page, program, ["firms"], page.text())
+        yield f"{name}: the auction ends, and the program says at what", said != "" and max(line["gain"] for line in verdict["firms"]) <= 1
+        yield f"{name}: its course is drawn, with its steps", page.value("document.querySelectorAll('#auction-course svg').length") == 1 and page.value("document.querySelectorAll('#auction-steps tbody tr').length") > 1
+        if prices is not None:
+            yield f"{name}: it ends at the lowest wages", all(price == prices[trade.split("-")[0]] for trade, price in at["prices"]) and page.guess().startswith("\u2713")
+        page.press("Control+z")
+        yield f"{name}: and is taken back as one change", json.loads(page.text()) == json.loads(look.example(name))
+        page.browser.run("document.querySelector('#auction-part').hidden || document.getElementById('auction-close').click()")
+    page.open("used-cars.json", look.example("used-cars.json"))
+    page.click("#auction")
+    page.wait_for("auction", "refused")
+    yield "where a firm buys and sells there is none, and that is said", page.says("auction-says") != ""
+    page.click("#auction-close")
+    page.browser.run("const slider = document.getElementById('one-price'); slider.value = '7'; slider.dispatchEvent(new Event('input', {bubbles: true}));")
+    yield "one price for all trades that are shown", {price for _, price in json.loads(page.text())["arrangement"]["prices"]} == {7}
+    page.press("Control+z")
 
 
 def is_shut(page: Bench, element: str) -> bool:
@@ -322,7 +411,8 @@ def tries_of_the_hour(page: Bench, program: str | None, language: str = "en"):
         return told.lower().endswith(words.lower())
 
     def content(count: int, firms: int) -> bool:
-        return says(page.guess(), "content", count, firms, "ist" if count == 1 else "sind")
+        told = page.guess().replace("people", "firms").replace("Personen", "Firmen")
+        return says(told, "content", count, firms, "ist" if count == 1 else "sind")
 
     page.open("used-cars.json", look.example("used-cars.json"))
     page.click("#tab-guess")
@@ -431,3 +521,32 @@ def tries_of_codes(page: Bench, address: str):
     yield "a document too long for a code is told", page.says("code-says").startswith("The document is too long for a code: the link has ") and page.value(SQUARES) == 0
     page.click("#linked-close")
     yield "and closed", page.value("document.getElementById('linked').hidden")
+
+
+# Each card: the name on it, its numbers, and what may be sold and bought; and whether anything else is seen.
+CARDS = """
+const texts = (card, selector) => [...card.querySelectorAll(selector)].map(({textContent}) => textContent);
+return [...document.querySelectorAll(".card")].map((card) => [texts(card, "h3")[0], texts(card, ".own")[0] ?? "", texts(card, "li")]);"""
+
+
+def tries_of_cards(page: Bench, address: str):
+    """A card for each firm, with nothing of the others; printed, there are eight on a sheet."""
+    page.again(f"{address}#lang=en")
+    lesson(page, "7-dealer")
+    page.click("#cards-show")
+    cards = page.browser.run(CARDS)
+    yield "each has its card", [name for name, _, _ in cards] == ["Pam", "Quin", "Dee", "Xaver", "Yara"]
+    yield "with its own numbers", cards[0][1] == "sells from 4, at most 1" and "12" in cards[3][1]
+    yield "and its trades", cards[0][2] == ["pam-dee to Dee: sells from 4", "pam-xaver to Xaver: sells from 4"] and len(cards[2][2]) == 4
+    yield "nothing else is seen", page.value("document.querySelector('main').getClientRects().length") == 0
+    page.open("many.json", json.dumps({"version": 2, "firms": [{"name": f"F{k}", "kind": "table", "rows": []} for k in range(16)], "trades": []}).encode())
+    page.click("#cards-show")
+    sheets = sheets_in(page.browser.printed())
+    yield f"eight are on a sheet, sixteen on {sheets}", sheets == 2
+    page.click("#cards-close")
+    yield "and the network is there again", page.value("document.querySelector('main').getClientRects().length") == 1
+    for path in sorted((look.ROOT / "docs" / "lesson").glob("*.html")):
+        page.browser.open(path.as_uri())
+        pages = sheets_in(page.browser.printed())
+        yield f"the sheet {path.name} has {pages} pages", 1 <= pages <= 2
+    page.again(address)

@@ -26,11 +26,16 @@ def sessions(page: bench.Bench, program: str | None, edits: list[list[str]]) -> 
     return bench.asked(page, program, ["session"], json.dumps({**json.loads(page.text()), "edits": edits}))["edits"]
 
 
+def arranged_as(document: dict, state: dict) -> str:
+    """A document with a state's trades and prices as its arrangement."""
+    prices = dict(map(tuple, state["prices"]))
+    entries = [[trade["name"], prices.get(trade["name"], 0)] for trade in document["trades"]]
+    return json.dumps({**document, "arrangement": {"on": state["on"], "prices": entries}})
+
+
 def standing(page: bench.Bench, program: str | None, state: dict) -> dict[str, str]:
     """Each firm's utility in a state, as `firms` says."""
-    whole, prices = json.loads(page.text()), dict(map(tuple, state["prices"]))
-    arrangement = {"on": state["on"], "prices": [[trade["name"], prices.get(trade["name"], 0)] for trade in whole["trades"]]}
-    said = bench.asked(page, program, ["firms"], json.dumps({**whole, "arrangement": arrangement}))
+    said = bench.asked(page, program, ["firms"], arranged_as(json.loads(page.text()), state))
     return {line["firm"]: str(line["utility"]) for line in said["firms"]}
 
 
@@ -76,7 +81,7 @@ def tries_of_a_dealer(page: bench.Bench, program: str | None):
     page.open("used-cars.json", look.example("used-cars.json"))
     page.click("#tab-guess")
     page.click(bench.label("O1 B1"))
-    yield "a guess isn't the market with everybody there", page.guess().endswith("4 of 6 firms are content.")
+    yield "a guess isn't the market with everybody there", page.guess().endswith("4 of 6 people are content.")
     before = page.text()
     page.click("#tab-whatif")
     yield "which has an equilibrium", supposed(page) == "With everybody there the worths sum to 10."
@@ -141,14 +146,17 @@ def tries_of_contributions(page: bench.Bench, program: str | None):
         for each in document[kind]:
             whole, without = sessions(page, program, [["admit", "*"], [away, each["name"]], [back, each["name"]]])[:2]
             wanted[each["name"]] = str(whole["surplus"] - without["surplus"])
-    yield "each has what it contributes, by the program's numbers", {name: cells[name][-1] for name in names} == wanted
+    yield "each has what it contributes, by the program's numbers", {name: cells[name][3] for name in names} == wanted
     ranges = bench.asked(page, program, ["range"], page.text())["ranges"]
     arranged = [standing(page, program, {"on": ["h1b2", "h2b3", "h3b1"], "prices": [[each["trade"], each[side]] for each in ranges]}) for side in ("low", "high")]
     reached = {**{name: arranged[0][name] for name in ("B1", "B2", "B3")}, **{name: arranged[1][name] for name in ("H1", "H2", "H3")}}
-    yield "which the best prices of buyers and of sellers bring them", {name: cells[name][-1] for name in reached} == reached
+    yield "which the best prices of buyers and of sellers bring them", {name: cells[name][3] for name in reached} == reached
+    state = sessions(page, program, [["admit", "*"]])[0]
+    worths = {line["firm"]: line["worth"] for line in bench.asked(page, program, ["firms"], arranged_as(document, state))["firms"]}
+    yield "and what it pays by the rule of Vickrey, Clarke and Groves", all(int(cells[name][4]) == worths[name] - int(cells[name][3]) for name in worths)
     page.click('[data-key="leave:H2"]')
     yield "a house is taken away in the table", supposed(page).startswith("H2 leaves: the worths sum to 10 in place of 16")
-    yield "and the contributions stay those of the market before", {name: row[-1] for name, row in rows(page).items()} == wanted
+    yield "and the contributions stay those of the market before", {name: row[3] for name, row in rows(page).items()} == wanted
     page.browser.run(bench.KEEP)
     page.click("#picture-save")
     [[name, picture]] = page.browser.run(bench.OFFERED)
@@ -159,7 +167,7 @@ def tries_of_contributions(page: bench.Bench, program: str | None):
 def tries_of_faults(page: bench.Bench, program: str | None):
     page.open("complements.json", look.example("complements.json"))
     page.click("#tab-whatif")
-    yield "a market that session refuses has its reason told", "exchange property" in supposed(page) and page.value("document.getElementById('whatif-there').hidden")
+    yield "a market that session refuses has its reason told", supposed(page).startswith("These goods are complements for B") and page.value("document.getElementById('whatif-there').hidden")
     page.type('{"version":1,"firms":[],"trades":[]}')
     yield "a market without firms is one", supposed(page) == "With everybody there the worths sum to 0."
     page.type("[")
@@ -178,6 +186,6 @@ def tries_of_access(page: bench.Bench):
     nodes = bench.tree_of(page)
     names = bench.names_in(nodes)
     yield f"all of a what-if has a name {bench.unnamed(nodes)}", bench.unnamed(nodes) == [] and {"D is there", "o1b1, from O1 to B1, is admitted"} <= set(names)
-    yield "what a firm has before and after is told", any(name.startswith("Firm D: a utility of ") and " before, away after" in name for name in names)
-    yield "what comes of it is told", any("the worths sum to 8 in place of 10" in name for name in names)
+    yield "what a firm has before and after is told", any(name.startswith("Person D: a utility of ") and " before, away after" in name for name in names)
+    yield "what comes of it is told", "worths" in names and any("sum to 8 in place of 10" in name for name in names)
     page.click("#tab-guess")

@@ -37,7 +37,7 @@ function titleOf({seller, buyer, trades, on}) {
 }
 
 /** Where an axis begins and ends, and the round distance of its ticks, of which there are at most ten. */
-function axisOf(bounds) {
+export function axisOf(bounds) {
     const least = bounds.length > 0 ? Math.min(...bounds) : 0, most = bounds.length > 0 ? Math.max(...bounds) : 1;
     let tick = 1;
     for (let k = 1; tick * 8 < most - least; k += 1) tick = [1, 2, 5][k % 3] * 10 ** Math.floor(k / 3);

@@ -22,6 +22,23 @@ export function closely(boxes, arrows, room) {
     return placed(boxes, arrows, room, false);
 }
 
+/**
+ * A layout as small as it can be, to be made as large as a room by `filled`. With `withLabels` labels stand between the layers; `rankdir`
+ * says whether these go from left to right or from top to bottom.
+ */
+export function compact(boxes, arrows, withLabels, rankdir = "LR") {
+    const gaps = withLabels ? {nodesep: 12, edgesep: 6, ranksep: 44} : {nodesep: 8, edgesep: 1, ranksep: rankdir === "LR" ? 56 : 24, ranker: "tight-tree"};
+    const found = {...ranked(boxes, arrows, {rankdir, ...gaps}, withLabels), isDown: rankdir === "TB"};
+    if (withLabels || found.isDown || found.arrows.some(({bends}) => bends.length > 0)) return found;
+    const most = Math.max(...layersOf(found.centers).map((layer) => layer.length)), high = Math.max(...boxes.map((box) => box.height)) + gaps.nodesep;
+    return most * high < found.height ? {...found, height: most * high, centers: evenly(found.centers, most * high)} : found;
+}
+
+/** A compact layout that is made as large as a room. */
+export function filled(found, boxes, arrows, room) {
+    return ended(stretched(found, boxes, room), boxes, arrows, found.isDown);
+}
+
 /** A layout with each label at the first free place of its arrow; one that finds none is null. */
 export function labelled(found, boxes, arrows) {
     const taken = boxes.map(({id, width, height}) => ({...found.centers.get(id), width, height}));
@@ -30,9 +47,16 @@ export function labelled(found, boxes, arrows) {
 }
 
 function placed(boxes, arrows, room, withLabels) {
+    const found = ranked(boxes, arrows, {rankdir: "LR", nodesep: withLabels ? 28 : 8, edgesep: withLabels ? 10 : 1, ranksep: withLabels ? 80 : 120,
+        ranker: withLabels ? "network-simplex" : "tight-tree"}, withLabels);
+    const whole = {width: room.width, height: Math.min(room.height, 0.6 * room.width)};
+    return ended(stretched(found, boxes, withLabels ? {width: 1.5 * found.height, height: found.height} : whole), boxes, arrows);
+}
+
+/** What dagre makes of boxes and arrows, with the bends of each arrow that it needs. */
+function ranked(boxes, arrows, options, withLabels) {
     const graph = new dagre.graphlib.Graph({multigraph: true});
-    graph.setGraph({rankdir: "LR", nodesep: withLabels ? 28 : 8, edgesep: withLabels ? 10 : 1, ranksep: withLabels ? 80 : 120,
-        ranker: withLabels ? "network-simplex" : "tight-tree"});
+    graph.setGraph(options);
     for (const {id, width, height} of boxes) graph.setNode(nodeOf(id), {width, height});
     arrows.forEach(({from, to, size}, k) => {
         graph.setEdge(nodeOf(from), nodeOf(to), withLabels && size ? {...size, labelpos: "c"} : {width: 0, height: 0}, `${k}`);
@@ -44,11 +68,13 @@ function placed(boxes, arrows, room, withLabels) {
         const bends = points.slice(1, -1), label = withLabels && arrow.size ? {x, y} : null;
         return {bends: twins.get(pairOf(arrow)) === 1 && bends.length === 1 && label === null ? [] : bends, label};
     });
-    const found = {...graph.graph(), centers: new Map(boxes.map(({id}) => [id, graph.node(nodeOf(id))])), arrows: drawn};
-    const whole = {width: room.width, height: Math.min(room.height, 0.6 * room.width)};
-    const wide = stretched(found, boxes, withLabels ? {width: 1.5 * found.height, height: found.height} : whole);
+    return {...graph.graph(), centers: new Map(boxes.map(({id}) => [id, graph.node(nodeOf(id))])), arrows: drawn};
+}
+
+/** A layout whose arrows go from side to side, or from below to above. */
+function ended(found, boxes, arrows, isDown = false) {
     const sides = new Map(boxes.map((box) => [box.id, box]));
-    return {...wide, arrows: wide.arrows.map(({bends, label}, k) => ({points: joined(wide.centers, sides, arrows[k], bends), label}))};
+    return {...found, arrows: found.arrows.map(({bends, label}, k) => ({points: joined(found.centers, sides, arrows[k], bends, isDown), label}))};
 }
 
 /** The name of a box in a graph, where names such as __proto__ can't stand as they are. */
@@ -104,14 +130,15 @@ function countsOf(arrows) {
 }
 
 /** An arrow's points, from the side of one box over its bends to the side of the other. */
-function joined(centers, sides, {from, to}, bends) {
+function joined(centers, sides, {from, to}, bends, isDown) {
     const start = centers.get(from), end = centers.get(to);
-    return [edgeOf(start, sides.get(from), bends[0] ?? end), ...bends, edgeOf(end, sides.get(to), bends[bends.length - 1] ?? start)];
+    return [edgeOf(start, sides.get(from), bends[0] ?? end, isDown), ...bends, edgeOf(end, sides.get(to), bends[bends.length - 1] ?? start, isDown)];
 }
 
-/** Where an arrow leaves a box towards a point: in the middle of its side where that lies to the side of it. */
-function edgeOf(center, {width, height}, towards) {
+/** Where an arrow leaves a box towards a point: in the middle of its side where that lies to the side of it, or below or above where it goes down. */
+function edgeOf(center, {width, height}, towards, isDown) {
     const dx = towards.x - center.x, dy = towards.y - center.y;
+    if (isDown && Math.abs(dy) > height / 2 + 8) return {x: center.x, y: center.y + Math.sign(dy) * height / 2};
     if (Math.abs(dx) > width / 2 + 8) return {x: center.x + Math.sign(dx) * width / 2, y: center.y};
     const scale = Math.min(dx === 0 ? Infinity : width / 2 / Math.abs(dx), dy === 0 ? Infinity : height / 2 / Math.abs(dy));
     return Number.isFinite(scale) ? {x: center.x + dx * scale, y: center.y + dy * scale} : center;

@@ -1,85 +1,162 @@
 // What the document says of a firm by itself, in a few words: from what a seller sells, up to what a buyer pays, at what cost something is
-// made. The numbers are those of the document, or sums of them.
+// made. The numbers are those of the document, or sums and differences of them.
 import {itemsOf, isObject} from "../read/network.js";
 import {say} from "../words/say.js";
 import {listed} from "./words.js";
 
 /** What is said of a firm: `{short, whole}`, each a text; null where the document says nothing of it that could be told so. */
 export function ownOf(network, name) {
-    const firm = itemsOf(network.data.firms).find((each) => isObject(each) && each.name === name), trades = network.trades.filter(({seller, buyer}) => seller === name || buyer === name);
-    const sides = {sales: trades.filter(({seller}) => seller === name).map((trade) => trade.name), purchases: trades.filter(({buyer}) => buyer === name).map((trade) => trade.name)};
-    const tell = firm ? KINDS[firm.kind] : undefined, parts = tell && trades.length > 0 ? tell(firm, sides) : [];
+    const firm = firmAt(network, name), sides = sidesOf(network, name), tell = firm ? KINDS[firm.kind] : undefined;
+    const parts = tell && sides.all.length > 0 ? tell(firm, sides) : [];
     return parts.length === 0 ? null : {short: parts[0], whole: parts.join(", ")};
+}
+
+/** What is said of each trade of a firm alone, by its name: from what it is sold, up to what is paid for it, or at which cost it is passed on. */
+export function eachOf(network, name) {
+    const firm = firmAt(network, name), sides = sidesOf(network, name), told = new Map();
+    for (const [trade, worth] of aloneAt(firm, sides)) {
+        told.set(trade, sides.sales.includes(trade) ? say("own.sells", {price: -worth}) : say("own.pays", {price: worth}));
+    }
+    for (const [purchase, sale, price] of firm?.kind === "dealer" ? pairsOf(firm) : []) {
+        told.set(purchase, [...(told.has(purchase) ? [told.get(purchase)] : []), say("own.passed", {sale, price})].join(", "));
+    }
+    return told;
 }
 
 const KINDS = {table: ofTable, laminar: ofLaminar, middleman: ofMiddleman, dealer: ofDealer};
 
+function firmAt(network, name) {
+    return itemsOf(network.data.firms).find((each) => isObject(each) && each.name === name);
+}
+
+/** The names of what a firm may sell, and buy, and of all its trades. */
+function sidesOf(network, name) {
+    const named = (side) => network.trades.filter((trade) => trade[side] === name).map((trade) => trade.name);
+    const sales = named("seller"), purchases = named("buyer");
+    return {sales, purchases, all: [...sales, ...purchases]};
+}
+
+/** Whether a firm makes something of what it buys, so that none of its trades is worth anything alone. */
+function isMaker({sales, purchases}) {
+    return sales.length > 0 && purchases.length > 0;
+}
+
 /** The entries of a list of `[trade, number]`. */
 function numbersOf(list) {
-    const entries = itemsOf(list).filter((entry) => Array.isArray(entry) && typeof entry[1] === "bigint");
-    return new Map(entries.map(([trade, number]) => [trade, number]));
+    return new Map(itemsOf(list).filter((entry) => Array.isArray(entry) && typeof entry[1] === "bigint").map(([trade, number]) => [trade, number]));
 }
 
 /** Numbers from the least to the greatest, once where they are one. */
 function extentOf(numbers) {
-    const [low, high] = numbers.reduce(([least, most], each) => [each < least ? each : least, each > most ? each : most], [numbers[0], numbers[0]]);
-    return low === high ? String(low) : say("own.from_to", {low, high});
+    const low = numbers.reduce((least, each) => (each < least ? each : least)), high = numbers.reduce((most, each) => (each > most ? each : most));
+    if (low === high) return String(low);
+    return low < 0n ? say("extent.from_to", {low, high}) : `${low}\u2013${high}`;
 }
 
-/** From what is sold, or up to what is paid for: each trade by itself. */
-function singly(sales, purchases) {
-    return [...(sales.length > 0 ? [say("own.sells", {price: extentOf(sales)})] : []), ...(purchases.length > 0 ? [say("own.pays", {price: extentOf(purchases)})] : [])];
+/** From what is sold, and up to what is paid for, each trade by itself; `worths` has those that are known. */
+function singly(worths, {sales, purchases}) {
+    const of = (trades) => trades.filter((trade) => worths.has(trade)).map((trade) => worths.get(trade));
+    const sold = of(sales).map((worth) => -worth), bought = of(purchases);
+    return [...(sold.length > 0 ? [say("own.sells", {price: extentOf(sold)})] : []), ...(bought.length > 0 ? [say("own.pays", {price: extentOf(bought)})] : [])];
 }
 
-function ofTable({rows}, {sales, purchases}) {
-    const known = itemsOf(rows).filter((row) => Array.isArray(row) && Array.isArray(row[0]) && typeof row[1] === "bigint");
-    const single = new Map(known.filter(([bundle]) => bundle.length === 1).map(([[trade], worth]) => [trade, worth]));
-    const worthsOf = (trades) => trades.filter((trade) => single.has(trade)).map((trade) => single.get(trade));
-    const all = known.filter(([bundle]) => bundle.length > 1).map(([bundle, worth]) => say("own.worth", {bundle: listed(bundle), worth}));
-    return [...singly(worthsOf(sales).map((worth) => -worth), worthsOf(purchases)), ...all];
+/** What each trade of a firm is worth to it alone, where that can be told. */
+function aloneAt(firm, sides) {
+    if (firm?.kind === "table") return singleRows(firm);
+    return firm?.kind === "laminar" && !isMaker(sides) ? aloneOf(firm, sides) : new Map();
 }
 
-/** What one unit more of a trade adds to a set's number, from the count 0; nothing where that can't be. */
+function rowsOf({rows}) {
+    return itemsOf(rows).filter((row) => Array.isArray(row) && Array.isArray(row[0]) && typeof row[1] === "bigint");
+}
+
+/** The worths of single trades in a table. */
+function singleRows(firm) {
+    return new Map(rowsOf(firm).filter(([bundle]) => bundle.length === 1).map(([[trade], worth]) => [trade, worth]));
+}
+
+function ofTable(firm, sides) {
+    const larger = rowsOf(firm).filter(([bundle]) => bundle.length > 1);
+    return [...singly(singleRows(firm), sides), ...larger.map(([bundle, worth]) => say("own.worth", {bundle: listed(bundle), worth}))];
+}
+
+/** The sets of a laminar firm that can be told. */
+function setsOf({sets}) {
+    return itemsOf(sets).filter((set) => isObject(set) && typeof (set.from ?? 0n) === "bigint");
+}
+
+const isWithin = (set, trade) => itemsOf(set.trades).includes(trade);
+
+/** What one unit more of a trade adds to a set's number, from the count 0; null where that can't be. */
 function stepOf({from, values}, by) {
     const at = (count) => itemsOf(values)[Number(-BigInt(from ?? 0) + count)], [here, there] = [at(0n), at(by)];
     return typeof here === "bigint" && typeof there === "bigint" ? there - here : null;
 }
 
-function ofLaminar({amounts, sets}, {sales, purchases}) {
-    const own = numbersOf(amounts), known = itemsOf(sets).filter((set) => isObject(set) && typeof (set.from ?? 0n) === "bigint"), has = (set, trade) => itemsOf(set.trades).includes(trade);
-    const alone = (trade, by) => known.filter((set) => has(set, trade)).reduce((sum, set) => (sum === null || stepOf(set, by) === null ? null : sum + stepOf(set, by)), own.get(trade) ?? 0n);
-    const valued = (trades, by) => trades.map((trade) => alone(trade, by)).filter((number) => number !== null);
-    const [sold, bought] = [valued(sales, -1n), valued(purchases, 1n)];
-    const made = sales.length > 0 && purchases.length > 0 ? madeFor(own, known, sales, purchases) : [];
-    return [...(made.length > 0 ? made : singly(sold.map((number) => -number), bought)), ...mostOf(known, [...sales, ...purchases])];
+/** A sum, which is null where one of its numbers is. */
+function sumOf(numbers) {
+    return numbers.reduce((sum, each) => (sum === null || each === null ? null : sum + each), 0n);
+}
+
+/** What each trade of a laminar firm is worth to it alone, where it is possible. */
+function aloneOf(firm, {sales, purchases}) {
+    const own = numbersOf(firm.amounts), sets = setsOf(firm);
+    const worthOf = (trade, by) => sumOf([own.get(trade) ?? 0n, ...sets.filter((set) => isWithin(set, trade)).map((set) => stepOf(set, by))]);
+    const worths = [...sales.map((trade) => [trade, worthOf(trade, -1n)]), ...purchases.map((trade) => [trade, worthOf(trade, 1n)])];
+    return new Map(worths.filter(([, worth]) => worth !== null));
+}
+
+function ofLaminar(firm, sides) {
+    const sets = setsOf(firm), made = isMaker(sides) ? madeFor(firm, sets, sides) : [];
+    const together = isMaker(sides) ? [] : sets.flatMap((set) => togetherIn(set, sides));
+    return [...(made.length > 0 ? made : [...singly(aloneOf(firm, sides), sides), ...together]), ...mostOf(sets, sides)];
+}
+
+/** How much more or less several trades of a set are worth together than each of them alone. */
+function togetherIn(set, {sales, all}) {
+    const sign = sales.length > 0 ? -1n : 1n, one = stepOf(set, sign), trades = itemsOf(set.trades), told = [];
+    for (let count = 2n; count <= BigInt(trades.length); count += 1n) {
+        const whole = stepOf(set, sign * count), more = whole === null || one === null ? 0n : whole - count * one;
+        const values = {count, number: more > 0n ? `+${more}` : String(more), trades: listed(trades)};
+        if (more !== 0n) told.push(say(trades.length === all.length ? "own.together" : "own.together_of", values));
+    }
+    return told;
 }
 
 /** What it costs to make one unit of a purchase into a sale. */
-function madeFor(own, sets, sales, purchases) {
-    const isWithin = (set, trade) => itemsOf(set.trades).includes(trade);
-    const cost = (purchase, sale) => sets.reduce((sum, set) => {
-        const by = (isWithin(set, purchase) ? 1n : 0n) - (isWithin(set, sale) ? 1n : 0n), step = by === 0n ? 0n : stepOf(set, by);
-        return sum === null || step === null ? null : sum - step;
-    }, -(own.get(purchase) ?? 0n) - (own.get(sale) ?? 0n));
-    const costs = purchases.flatMap((purchase) => sales.map((sale) => cost(purchase, sale))).filter((each) => each !== null);
+function madeFor(firm, sets, {sales, purchases}) {
+    const own = numbersOf(firm.amounts), costs = [];
+    for (const purchase of purchases) for (const sale of sales) {
+        const steps = sets.filter((set) => isWithin(set, purchase) !== isWithin(set, sale)).map((set) => stepOf(set, isWithin(set, purchase) ? 1n : -1n));
+        const worth = sumOf([own.get(purchase) ?? 0n, own.get(sale) ?? 0n, ...steps]);
+        if (worth !== null) costs.push(-worth);
+    }
     return costs.length === 0 ? [] : [say("own.makes", {price: extentOf(costs)})];
 }
 
-/** How many it sells, or buys, at most: a set that has all its trades. */
-function mostOf(sets, own) {
-    const whole = sets.find((set) => own.every((trade) => itemsOf(set.trades).includes(trade)));
+/** How many it sells, or buys, at most: by a set that has all its trades. */
+function mostOf(sets, {all}) {
+    const whole = sets.find((set) => all.every((trade) => isWithin(set, trade)));
     if (!whole) return [];
     const from = BigInt(whole.from ?? 0), to = from + BigInt(itemsOf(whole.values).length) - 1n, most = -from > to ? -from : to;
-    return most > 0n && most < BigInt(own.length) ? [say("own.most", {count: most})] : [];
+    return most > 0n && most < BigInt(all.length) ? [say("own.most", {count: most})] : [];
 }
 
 function ofMiddleman({costs, gains, keep}) {
-    const both = [...numbersOf(costs).values()].map((cost) => cost), more = [...numbersOf(gains).values()];
-    const paid = both.some((cost) => cost !== 0n) ? [say("own.costs", {price: extentOf(both)})] : [], brought = more.some((gain) => gain !== 0n) ? [say("own.gains", {price: extentOf(more)})] : [];
-    return [say("own.passes"), ...paid, ...brought, ...(typeof keep === "bigint" ? [say("own.keeps", {price: keep})] : [])];
+    const told = (list, key) => {
+        const numbers = [...numbersOf(list).values()];
+        return numbers.some((number) => number !== 0n) ? [say(key, {price: extentOf(numbers)})] : [];
+    };
+    const kept = typeof keep === "bigint" ? [say("own.keeps", {price: keep})] : [];
+    return [say("own.passes"), ...told(costs, "own.costs"), ...told(gains, "own.gains"), ...kept];
 }
 
-function ofDealer({pairs}) {
-    const costs = itemsOf(pairs).filter((pair) => Array.isArray(pair) && typeof pair[2] === "bigint").map((pair) => pair[2]);
+/** Which purchase a dealer may sell on as which sale, at which cost. */
+function pairsOf({pairs}) {
+    return itemsOf(pairs).filter((pair) => Array.isArray(pair) && typeof pair[2] === "bigint");
+}
+
+function ofDealer(firm) {
+    const costs = pairsOf(firm).map(([, , cost]) => cost);
     return costs.length === 0 ? [] : [say("own.matches", {price: extentOf(costs)})];
 }

@@ -117,6 +117,15 @@ export function gainOf({states}, firm) {
     return then === null || now === null ? null : now - then;
 }
 
+/**
+ * What a firm pays by the rule of Vickrey, Clarke and Groves in the market before the change, where it gets what is below 0: then it has
+ * just what it contributes, beside what no trade at all is worth to it. Null where that isn't known.
+ */
+export function paidOf({states: [{lines}]}, firm, {firms, nothing}) {
+    const worth = lines.get(firm)?.worth ?? null, contributed = firms.get(firm), least = nothing.get(firm) ?? null;
+    return contributed === undefined || worth === null || least === null ? null : worth - contributed - least;
+}
+
 /** A trade before and after, as two texts: on or off, at which price, or why it can't be used. */
 export function tradeStates({states, before, after}, name) {
     return [before, after].map((edits, k) => {

@@ -3,8 +3,9 @@ import {ANSWERS} from "./en/answers.js";
 import {CLAIMS} from "./en/claims.js";
 import {FAULTS} from "./en/faults.js";
 import {FORM} from "./en/form.js";
+import {HELP} from "./en/help.js";
 import {PAGE} from "./en/page.js";
 import {PICTURES} from "./en/pictures.js";
 import {VIEWS} from "./en/views.js";
 
-export const EN = {...PAGE, ...VIEWS, ...FORM, ...ANSWERS, ...CLAIMS, ...FAULTS, ...PICTURES};
+export const EN = {...PAGE, ...HELP, ...VIEWS, ...FORM, ...ANSWERS, ...CLAIMS, ...FAULTS, ...PICTURES};

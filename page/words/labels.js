@@ -15,9 +15,14 @@ export function noteOf(note) {
 }
 
 /** From now on the firms and trades of a network are spoken of. */
-export function speakOf(next) {
+export function labelsOf(next) {
     if (network !== next) made = {...made, language: ""};
     network = next;
+}
+
+/** Whether a document's note says that its firms are people. */
+export function saysPeople(note) {
+    return note?.people === true || note?.note?.people === true;
 }
 
 function labels() {

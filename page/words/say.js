@@ -3,12 +3,19 @@
 // which it is.
 import {DE} from "./de.js";
 import {EN} from "./en.js";
-import {called, labelsIn} from "./labels.js";
+import {FAULTS} from "./en/faults.js";
+import {called, labelsIn, labelsOf, saysPeople} from "./labels.js";
 
-/** The languages, each with its own name and its table. */
-export const LANGUAGES = {en: {name: "English", table: EN}, de: {name: "Deutsch", table: DE}};
+/** The languages, each with its own name, its table, and what firms are called where they are people. */
+export const LANGUAGES = {
+    en: {name: "English", table: EN, people: {firm: "person", firms: "people", Firm: "Person", Firms: "People"}},
+    de: {name: "Deutsch", table: DE, people: {Firma: "Person", Firmen: "Personen"}},
+};
 
-let spoken = "en", forms = new Intl.PluralRules("en");
+/** The parts of a table in which firms are the format's. */
+const PLAIN = new Set([...Object.keys(FAULTS), "command"]);
+
+let spoken = "en", forms = new Intl.PluralRules("en"), arePeople = false;
 
 /** The language that is spoken. */
 export function language() {
@@ -22,12 +29,29 @@ export function speak(next) {
     forms = new Intl.PluralRules(next);
 }
 
+/**
+ * Speaks of a network's firms and trades from now on, of the firms as people where that is told, or its note says so; answers whether
+ * firms are called otherwise than before.
+ */
+export function speakOf(network, people = null) {
+    const before = arePeople;
+    labelsOf(network);
+    arePeople = people ?? saysPeople(network.data.note);
+    return arePeople !== before;
+}
+
+/** A text as it is said of firms or of people; where a pronoun differs both stand in brackets. */
+function spokenOf(text, part) {
+    const {people} = LANGUAGES[spoken], said = text.replace(/\[(\w+)\|(\w+)\]/g, arePeople ? "$2" : "$1");
+    return arePeople && !PLAIN.has(part) ? said.replace(/(?<!\{)\b[Ff]irm\w*/g, (word) => people[word] ?? word) : said;
+}
+
 /** A text with its values put in by their names, firms and trades by their labels. One that isn't there, or lacks a value, is an error. */
 export function say(key, values = {}) {
     const [part, name] = key.split("."), entry = LANGUAGES[spoken].table[part]?.[name];
     if (entry === undefined) throw new Error(`There is no text ${key} in ${spoken}.`);
     const text = typeof entry === "string" ? entry : entry[forms.select(Number(given(values, "count", key)))];
-    return text.replace(/\{(\w+)\}/g, (_, each) => given(values, each, key));
+    return spokenOf(text, part).replace(/\{(\w+)\}/g, (_, each) => given(values, each, key));
 }
 
 function given(values, name, key) {

@@ -5,7 +5,7 @@ import {belongs, isSo, NoAnswer, readAnswer} from "../../page/read/answer.js";
 import {NotJson, readable, textOf} from "../../page/read/json.js";
 import {Network} from "../../page/read/network.js";
 import {askOf} from "./ask.mjs";
-import {speakOf} from "../../page/words/labels.js";
+import {speakOf} from "../../page/words/say.js";
 
 /** The built program, or null. */
 export const ask = askOf();

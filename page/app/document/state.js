@@ -24,15 +24,16 @@ const AT_FIRST = {isOver: false, hasRanges: false, hasReason: false, window: nul
  * `decided` are what `firms`, `range`, `judge` and `replay` answered, `reason` what `support` or `test` did, and `answer` is that of the
  * command in `words`, each with the `document` that it was asked of; where that isn't the present one it is old. `run` is how far the
  * command is, `view` how all this is looked at: `mode` is "guess", "sign" or "whatif", which was come to `from`
- * one of the others, `step` the place in a story that is told, and `built` that of the firm in the form. `supposed` is who is away and what is barred before and after a change, as edits; `compared` and `contributed` are
- * what was said of it.
+ * one of the others, `isEasy` leaves out the views for those who know the format, `people` says whether firms are called people, null where
+ * the document's note does, `step` is the place in a story that is told, and `built` that of the firm in the form. `supposed` is who is away and what is barred before and after a change, as edits; `compared` and `contributed` are
+ * what was said of it. `auction` is null, or an auction of the market as far as it went.
  */
 export const START = {
     document: {name: "", bytes: new Uint8Array(0), text: "", isWhole: true, exercise: null, tries: 0}, past: [], future: [], outside: null,
     mark: null, risen: null, selection: null,
     guess: null, ranges: null, path: null, judged: null, decided: null, reason: null, results: [], words: ["solve"], run: {state: "none"}, answer: null,
-    supposed: {before: [], after: []}, compared: null, contributed: null,
-    view: {panel: "guess", mode: "guess", from: "guess", step: 0, hasOwn: true, ...AT_FIRST},
+    supposed: {before: [], after: []}, compared: null, contributed: null, auction: null,
+    view: {panel: "guess", mode: "guess", from: "guess", step: 0, hasOwn: true, hasAll: false, isEasy: false, people: null, ...AT_FIRST},
 };
 
 /** The value, looked at in another way. */
@@ -98,6 +99,8 @@ export const ACTIONS = {
     supposed: (value, before, after) => ({...value, supposed: {before, after}}),
     compared: (value, compared) => ({...value, compared}),
     contributed: (value, contributed) => ({...value, contributed}),
+    /** An auction began, took a step or was closed. */
+    auctioned: (value, auction) => ({...value, auction}),
     /** Another command was chosen. */
     chosen: (value, words) => ({...value, words, run: {state: "none"}}),
     asked: (value) => ({...value, run: {state: "asking"}}),
@@ -106,9 +109,9 @@ export const ACTIONS = {
     ended: (value) => ({...value, run: {state: "ended"}}),
     /** Another language is spoken: sentences are asked for again, and the answer to the command is told again. */
     spoken: (value) => {
-        const {document, answer, supposed, view} = value,
+        const {document, answer, supposed, auction, view} = value,
             results = value.results.map((each) => ({...each, verdict: null}));
-        return {...value, ...NOTHING_SAID, answer, supposed, document: {...document}, view: {...view}, results};
+        return {...value, ...NOTHING_SAID, answer, supposed, auction, document: {...document}, view: {...view}, results};
     },
     retold: (value, answer) => ({...value, answer}),
     /** Results were opened; each is compared with the exercise that the document is, if it is one. */
@@ -139,7 +142,7 @@ function outsideOf({document: before, outside}, {exercise}) {
 }
 
 const NOTHING_SAID = {guess: null, ranges: null, path: null, judged: null, decided: null, reason: null, answer: null,
-    supposed: START.supposed, compared: null, contributed: null};
+    supposed: START.supposed, compared: null, contributed: null, auction: null};
 
 /** The views of the panel that say what the network shows. */
 const MODES = ["guess", "sign", "whatif"];
@@ -205,10 +208,13 @@ function resultWith({text, ...result}, given) {
     return {...result, document, isGiven: isAsGiven(networkOf(document), given), verdict: null};
 }
 
-/** What a pupil sees of an exercise: the view in which its goal is looked for, and nothing that would solve it. */
+/** The views that an easy page hasn't. */
+const HARD = ["claim", "document", "answer"];
+
+/** What there is of an easy page; and what a pupil sees of an exercise: the view in which its goal is looked for, and nothing that would solve it. */
 function within(value) {
     const {document: {exercise}, view} = value;
-    if (exercise === null) return value;
+    if (exercise === null) return view.isEasy && HARD.includes(view.panel) ? looked(value, {panel: view.mode}) : value;
     const {panel} = GOALS[exercise.goal], wanted = {panel: view.panel === "results" ? "results" : panel, mode: panel, hasRanges: false, hasReason: false, isOver: false};
     return Object.entries(wanted).every(([name, each]) => view[name] === each) ? value : looked(value, wanted);
 }

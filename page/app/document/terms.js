@@ -2,7 +2,7 @@
 import {entriesOf, itemsOf} from "../../read/network.js";
 import {countedOver, outcomeOf, signed, signedAs, unsigned} from "./contracts.js";
 import {arranged, priced, turned} from "./edits.js";
-import {networkOf} from "./state.js";
+import {isOld, networkOf} from "./state.js";
 
 /** The names of the trades that take place, or are signed, and the price of each, of what is signed its numerator. */
 export function termsOf({document, view}) {
@@ -38,10 +38,10 @@ export function turn(store, trade, isOn = !termsOf(store.value).on.has(trade)) {
     return store.act("edited", isOn ? signed(network, new Map([[trade, String(priceOf(store.value, trade))]])) : unsigned(network, trade));
 }
 
-/** Makes a guess of some trades and prices. */
-export function arrange(store, names, prices) {
+/** Makes a guess of some trades and prices; changes with one mark are taken back together. */
+export function arrange(store, names, prices, mark = null) {
     const inLetters = new Map(prices.map(([name, price]) => [name, String(price)]));
-    store.act("edited", arranged(networkOf(store.value.document), names, inLetters));
+    store.act("edited", arranged(networkOf(store.value.document), names, inLetters), mark);
 }
 
 /** Signs what takes place in the guess, at its prices, over the denominator that is there. */
@@ -49,6 +49,29 @@ export function signGuess(store) {
     const network = networkOf(store.value.document), {on} = termsOf({...store.value, view: {mode: "guess"}});
     const names = network.trades.map(({name}) => name).filter((name) => on.has(name));
     store.act("edited", signedAs(network, outcomeOf(network).over, new Map(names.map((name) => [name, String(guessed(network, name))]))));
+}
+
+/** Signs the trades of an answer of `range` at their lowest or highest prices, and answers whether it has these. */
+export function signAt(store, said, side) {
+    const bounds = new Map(itemsOf(said.ranges).map((range) => [range.trade, range[side]]));
+    const isThere = said.answer === "ranges" && said.on.every((name) => typeof bounds.get(name) === "bigint");
+    if (isThere) store.act("edited", signedAs(networkOf(store.value.document), 1n, new Map(said.on.map((name) => [name, String(bounds.get(name))]))));
+    return isThere;
+}
+
+/**
+ * Makes what is signed the guess, at its prices where they are whole, and answers whether they are. Trades that aren't signed get the
+ * prices that complete it, where the program said such, or else keep those of the guess.
+ */
+export function guessSigned(store) {
+    const {document, judged} = store.value, network = networkOf(document), {over, contracts} = outcomeOf(network);
+    const isWhole = [...contracts.values()].every((price) => typeof price === "bigint" && price % over === 0n);
+    if (!isWhole) return false;
+    const isCompleted = judged?.said?.answer === "completes" && judged.said.over === 1n && !isOld(store.value, judged);
+    const known = entriesOf(isCompleted ? judged.said.prices : network.arrangement.prices);
+    const priceAt = (name) => contracts.has(name) ? contracts.get(name) / over : known.get(name) ?? 0n;
+    arrange(store, [...contracts.keys()], network.trades.map(({name}) => [name, priceAt(name)]));
+    return true;
 }
 
 /** Counts the prices of what is signed over another denominator, and answers whether they are whole then. */

@@ -5,12 +5,19 @@ import {networkOf} from "../document/state.js";
 import {offer, on, part, write} from "../shell/page.js";
 import {forgetDone} from "./begun.js";
 import {exerciseIn, exerciseMade, GOALS, resultText} from "./exercise.js";
+import {resultFragment, resultsIn} from "../sharing/link.js";
+import {showLink} from "../sharing/links.js";
 import {copyTable, saveTable} from "../sharing/tables.js";
-import {resultsTable} from "./results.js";
+import {drawGuesses, resultsTable} from "./results.js";
 
-/** Binds all that. `other` is the name and the text of what is looked at when an exercise is left, and nothing was before it. */
-export function bindLesson(store, [other, text]) {
+/**
+ * Binds all that. `other` is the name and the text of what is looked at when an exercise is left, and nothing was before it; `run` answers
+ * a command for a document.
+ */
+export function bindLesson(store, [other, text], run) {
     bindMaker(store);
+    bindResultLinks(store);
+    on("results-draw", () => drawGuesses(store.value, run.said));
     store.watch((_, name) => ["opened", "left"].includes(name) && (part("pupil").value = ""));
     on("exercise-leave", () => store.act("left", other, new TextEncoder().encode(text)));
     on("result-save", () => {
@@ -27,6 +34,21 @@ export function bindLesson(store, [other, text]) {
         if (!result) return;
         store.act("opened", result.file, result.document.bytes);
         if (result.tries !== null) store.act("tried", Number(result.tries));
+    });
+}
+
+/** A result as a link, which has the pupil's name only where that is chosen; and links of results that are put in. */
+function bindResultLinks(store) {
+    on("result-link", () => {
+        const {document} = store.value, name = part("result-named").checked ? part("pupil").value.trim() : "";
+        showLink(document.exercise.title, resultFragment(resultText(document, name)));
+        forgetDone(document);
+    });
+    part("result-links").addEventListener("change", async () => {
+        const results = await resultsIn(part("result-links").value);
+        part("result-links-says").textContent = results.length === 0 ? say("results.no_link") : say("results.links", {count: results.length});
+        if (results.length > 0) [part("result-links").value] = [""];
+        if (results.length > 0) store.act("resulted", results);
     });
 }
 

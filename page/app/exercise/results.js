@@ -1,8 +1,11 @@
 // The results that a teacher has opened, as a table. Each is decided by the program, which is asked anew.
+import {guessesPicture} from "../../draw/guesses.js";
 import {NoAnswer, readAnswer} from "../../read/answer.js";
+import {entriesOf} from "../../read/network.js";
 import {say} from "../../words/say.js";
 import {Ended, NoAnswerCame} from "../program/ask.js";
-import {made, part} from "../shell/page.js";
+import {networkOf} from "../document/state.js";
+import {drawing, made, part} from "../shell/page.js";
 import {GOALS, resultIn} from "./exercise.js";
 
 const HEADS = ["head.name", "head.exercise", "head.reached", "head.tries", "head.given"];
@@ -74,6 +77,7 @@ export function showResults({results}) {
     if (results === shown) return;
     shown = results;
     const table = part("results"), reached = results.filter((result) => outcomeOf(result)?.isReached).length;
+    part("results-picture").replaceChildren();
     part("results-says").textContent = say("result.counted", {count: results.length, reached});
     table.tHead.replaceChildren(rowOf(HEADS.map((head) => made("th", say(head), {scope: "col"}))));
     table.tBodies[0].replaceChildren(...results.map((result, k) => resultRow(result, k)));
@@ -106,6 +110,21 @@ function cellsOf(result) {
     const reached = outcome === null ? "" : `${SIGNS[outcome.isReached]}${outcome.says}`;
     return [name || file, document.exercise?.title ?? say("word.none"), reached, String(tries ?? "?"),
         say(GIVEN[isGiven])];
+}
+
+/**
+ * Draws what all guessed at each price, beside the range of each in the market that was given: the present one, where results are of it,
+ * and else that of the first result. `said` answers a command for a document.
+ */
+export async function drawGuesses({results, document}, said) {
+    const given = results.some(({isGiven}) => isGiven) ? document : results[0]?.document;
+    if (given === undefined) return;
+    const network = networkOf(given), ranges = await said(["range"], given);
+    const guesses = results.filter(({isGiven}) => isGiven !== false).map((result) => entriesOf(networkOf(result.document).arrangement.prices));
+    const figure = made("figure"), drawn = drawing(guessesPicture(network, ranges?.answer === "ranges" ? ranges.ranges : [], guesses));
+    drawn.setAttribute("role", "img");
+    figure.append(drawn);
+    part("results-picture").replaceChildren(figure);
 }
 
 /** The table, with its heads. */

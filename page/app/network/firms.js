@@ -2,6 +2,7 @@
 import {firmLabel, tradeLabel} from "../../words/labels.js";
 import {say} from "../../words/say.js";
 import {isOld, networkOf} from "../document/state.js";
+import {writeMeant} from "../shell/meanings.js";
 import {keepingFocus, made, part} from "../shell/page.js";
 import {moodOf} from "./stage.js";
 
@@ -18,9 +19,15 @@ export function showFirms(value) {
     table.classList.toggle("old", isOld(value, guess));
     if (shownOf !== null && shownOf.guess === guess && shownOf.document === document && shownOf.selection === selection) return;
     shownOf = {guess, document, selection};
-    table.tHead.replaceChildren(rowOf(HEADS.map((head) => made("th", say(head), {scope: "col"}))));
+    table.tHead.replaceChildren(rowOf(HEADS.map(headOf)));
     const lines = linesOf(guess), firms = networkOf(document).firms.map(({name}) => name).filter((name) => name !== "");
     keepingFocus(table, () => table.tBodies[0].replaceChildren(...firms.map((name) => firmRow(name, lines.get(name), selection))));
+}
+
+function headOf(head) {
+    const cell = made("th", "", {scope: "col"});
+    writeMeant(cell, say(head));
+    return cell;
 }
 
 /** What `firms` says, by the names of the firms. */
@@ -58,7 +65,8 @@ function namesOf(names) {
     return names.length === 0 ? say("list.none") : names.map(tradeLabel).join(", ");
 }
 
-/** The firms that aren't content. */
-export function objectors({guess}) {
+/** The firms that aren't content, or would drop what they have signed. */
+export function objectors({guess, judged, view}) {
+    if (view.mode === "sign") return [...judged?.drops?.keys() ?? []];
     return [...linesOf(guess).values()].filter((line) => moodOf(line) !== "content").map(({firm}) => firm);
 }

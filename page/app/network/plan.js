@@ -1,15 +1,9 @@
 // Where the firms and lanes of a network stand in the picture. A guess doesn't move them: the room for what it changes is kept free.
 import {lanesOf} from "../../draw/lanes.js";
-import {closely, labelled, layout} from "../../draw/layout.js";
+import {compact, filled, labelled} from "../../draw/layout.js";
 import {NORMAL, widthOf} from "../../draw/svg.js";
 import {firmLabel, tradeLabel} from "../../words/labels.js";
 import {language, say} from "../../words/say.js";
-
-/** The room for a picture, by the shape of its place in the page. */
-const ROOMS = {wide: {width: 1540, height: 760}, usual: {width: 940, height: 720}, narrow: {width: 400, height: 460}};
-
-/** The room in which labels may stand between the layers. */
-const ROOM = {width: 1580, height: 880};
 
 /** Beyond how many lanes there is a table, and only one firm's neighbourhood is drawn. */
 const MOST_LANES = 120;
@@ -17,8 +11,30 @@ const MOST_LANES = 120;
 /** Up to how many lanes each has its name and price in a place of its own, and up to how many where there is one left. */
 const FEW = 24, SOME = 60;
 
-/** The sizes of letters, which are smaller where there is much. */
+/** How many of many lanes have a place for their label where they are drawn in a room. */
+const MOSTLY = 0.75;
+
+/** The sizes of letters, in pixels of the screen where the picture isn't enlarged. None is smaller. */
 export const PRICE = 15, NAME = 15, BELOW = 13;
+
+/** The edge around the picture. */
+export const EDGE = 12;
+
+/**
+ * How a network may be drawn, the most telling first: how high a box is, and how much more with its firm's own numbers; whether a lane has
+ * its name above its price or both in one line; whether that has a place between the layers, or where there is a free one; and how much it
+ * may be enlarged.
+ */
+const WAYS = [
+    {kind: "whole", high: 58, own: 16, isLine: false, isBetween: true, zooms: [2.2], directions: ["LR"]},
+    {kind: "whole", high: 58, own: 16, isLine: true, isBetween: true, zooms: [1.3], directions: ["LR"]},
+    {kind: "close", high: 42, own: 16, isLine: true, isBetween: true, zooms: [1.3], directions: ["LR"]},
+    {kind: "close", high: 42, own: 16, isLine: true, isBetween: false, zooms: [1.25, 1], directions: ["LR", "TB"]},
+    {kind: "close", high: 42, own: 16, isLine: false, isBetween: false, zooms: [1.25, 1], directions: ["LR", "TB"]},
+    {kind: "short", high: 38, own: 0, isLine: true, isBetween: true, zooms: [1.5], directions: ["LR"]},
+    {kind: "short", high: 38, own: 0, isLine: true, isBetween: false, zooms: [1.5, 1.25, 1], directions: ["LR", "TB"]},
+    {kind: "line", high: 22, own: 0, isLine: true, isBetween: false, zooms: [1.25, 1], directions: ["LR", "TB"]},
+];
 
 const kept = new Map(), MOST_KEPT = 8;
 
@@ -36,27 +52,69 @@ function lanesAt(network, firm = null) {
 }
 
 /**
- * The plan of a network, or of one firm and its neighbours: `{lanes, boxes, places, isClose}`, where `places` is a layout. `digits` is
- * how long numbers are at most, `shape` one of those of the rooms, and `own` has what the document says of firms, by their names.
+ * The plan of a network, or of one firm and its neighbours: `{lanes, boxes, places, way, zoom}`, where `places` is a layout and `way` says
+ * how it is drawn. `digits` is how long numbers are at most, `room` has the pixels that there are, of which `isTall` says whether there may
+ * be more below, and `own` has what the document says of firms, by their names.
  */
-export function planOf(network, firm, digits, shape, own) {
+export function planOf(network, firm, digits, room, own) {
     const trades = network.trades.map(({name, seller, buyer}) => [name, seller, buyer, tradeLabel(name)]);
-    const key = JSON.stringify([language(), firm, digits, shape, network.firms.map(({name}) => [name, firmLabel(name), own.get(name)?.short]), trades]);
+    const firms = network.firms.map(({name}) => [name, firmLabel(name), own.get(name)?.short]);
+    const key = JSON.stringify([language(), firm, digits, room, firms, trades]);
     if (!kept.has(key)) {
         if (kept.size >= MOST_KEPT) kept.delete(kept.keys().next().value);
-        kept.set(key, madePlan(network, firm, digits, shape, own));
+        kept.set(key, madePlan(network, firm, digits, room, own));
     }
     return kept.get(key);
 }
 
-function madePlan(network, firm, digits, shape, own) {
-    const lanes = lanesAt(network, firm), isClose = lanes.length > FEW || shape === "narrow";
-    const near = new Set([firm, ...lanes.flatMap(({seller, buyer}) => [seller, buyer])]);
+function madePlan(network, firm, digits, room, own) {
+    const lanes = lanesAt(network, firm), near = new Set([firm, ...lanes.flatMap(({seller, buyer}) => [seller, buyer])]);
     const firms = [...new Set(network.firms.map(({name}) => name))].filter((name) => name !== "" && (firm === null || near.has(name)));
-    const boxes = firms.map((name) => ({id: name, name, ...boxSize(name, digits, isClose, own.get(name)?.short)}));
-    const arrows = lanes.map((lane) => ({from: lane.seller, to: lane.buyer, size: isClose ? null : labelSize(lane, digits)}));
-    if (boxes.length === 0) return {lanes, boxes, arrows, isClose, places: {width: 100, height: 100, centers: new Map(), arrows: []}};
-    return {lanes, boxes, arrows, isClose, places: isClose ? closely(boxes, arrows, ROOMS[shape]) : layout(boxes, arrows, ROOM)};
+    const drafts = waysFor(lanes, room).map(([way, direction]) => draftOf(way, direction, {lanes, firms, digits, own}));
+    if (firms.length === 0) return {...drafts[0], zoom: 1, places: NOWHERE};
+    const inside = {...room, width: room.width - 2 * EDGE, height: room.height - 2 * EDGE};
+    for (const draft of drafts) {
+        const plan = fitting(draft, inside, digits);
+        if (plan !== null) return plan;
+    }
+    return beyond(drafts.filter(({direction}) => direction === "LR").pop(), inside);
+}
+
+/** The layout of nothing. */
+const NOWHERE = {width: 100, height: 100, centers: new Map(), arrows: []};
+
+/** The ways in which lanes may be drawn, with their directions; many lanes go down only where there is no more room below. */
+function waysFor(lanes, {isTall}) {
+    const isMuch = lanes.length > FEW, ways = WAYS.filter(({isBetween, own}) => !isMuch || (own === 0 && !isBetween));
+    return ways.flatMap((way) => way.directions.filter((direction) => !isMuch || !isTall || direction === "LR").map((direction) => [way, direction]));
+}
+
+/** A way to draw a network, before it is laid out. */
+function draftOf(way, direction, {lanes, firms, digits, own}) {
+    const boxes = firms.map((name) => ({id: name, name, ...boxSize(name, digits, way, own.get(name)?.short)}));
+    const arrows = lanes.map((lane) => ({from: lane.seller, to: lane.buyer, size: way.isBetween ? (way.isLine ? lineSize : labelSize)(lane, digits) : null}));
+    return {way, direction, lanes, boxes, arrows};
+}
+
+/** The plan of a draft, enlarged as much as it may be; null where it doesn't fit, or lanes find no place for their labels. */
+function fitting(draft, room, digits) {
+    const {way, direction, lanes, boxes, arrows} = draft, least = compact(boxes, arrows, way.isBetween, direction);
+    const most = Math.min(room.width / least.width, room.height / least.height);
+    for (const zoom of way.isBetween ? [Math.min(way.zooms[0], most)] : way.zooms) {
+        if (zoom > most || zoom < 1) continue;
+        const inside = {width: room.width / zoom, height: room.height / zoom};
+        const plan = {...draft, zoom, places: filled(least, boxes, arrows, inside)};
+        const placed = labelPlaces(plan, digits, () => true).filter((place) => place !== null).length;
+        if (placed >= lanes.length * (lanes.length > FEW ? MOSTLY : 1)) return plan;
+    }
+    return null;
+}
+
+/** The plan of a draft that is larger than the room: higher, where it may be, or made smaller. */
+function beyond(draft, room) {
+    const {boxes, arrows} = draft, least = compact(boxes, arrows, false);
+    const needed = {width: Math.max(room.width, least.width), height: Math.max(room.height, least.height)};
+    return {...draft, zoom: 1, places: filled(least, boxes, arrows, needed)};
 }
 
 /**
@@ -69,10 +127,10 @@ export function labelPlaces(plan, digits, isNamed) {
     return plan.labels.places;
 }
 
-function madeLabels({lanes, places, boxes, isClose}, digits, isNamed) {
-    if (!isClose) return places.arrows.map(({label}) => label);
+function madeLabels({lanes, places, boxes, way}, digits, isNamed) {
+    if (way.isBetween) return places.arrows.map(({label}) => label);
     const order = [...lanes.keys()].sort((one, other) => isNamed(lanes[other]) - isNamed(lanes[one]) || one - other);
-    const sizes = order.map((k) => ({size: isNamed(lanes[k]) || lanes.length <= SOME ? lineSize(lanes[k], digits) : null}));
+    const sizes = order.map((k) => ({size: isNamed(lanes[k]) || lanes.length <= SOME ? (way.isLine ? lineSize : labelSize)(lanes[k], digits) : null}));
     const found = labelled({...places, arrows: order.map((k) => places.arrows[k])}, boxes, sizes), labels = [];
     order.forEach((k, place) => (labels[k] = found.arrows[place].label));
     return labels;
@@ -81,11 +139,13 @@ function madeLabels({lanes, places, boxes, isClose}, digits, isNamed) {
 /** How much wider letters can be than they are reckoned: those of DejaVu Sans are. */
 const WIDER = 1.12;
 
-function boxSize(name, digits, isClose, own) {
-    const number = "0".repeat(digits), below = isClose
-        ? [`\u2717 ${say("word.none")}`, `\u2717 ${number}`] : [say("word.impossible"), say("word.best", {number})];
-    const widest = Math.max(widthOf(firmLabel(name), NAME), ...below.map((says) => widthOf(says, BELOW)), isClose || !own ? 0 : widthOf(own, BELOW));
-    return {width: widest * WIDER + 12, height: isClose ? 38 : own ? 74 : 58};
+function boxSize(name, digits, {kind, high, own: ownHigh}, own) {
+    const number = "0".repeat(digits), label = firmLabel(name), best = say("word.best", {number});
+    const short = [`\u2717 ${say("word.none")}`, `\u2717 ${number}`];
+    const below = {whole: [say("word.impossible"), best], close: [`\u2717 ${number}, ${best}`], short, line: []}[kind];
+    const first = kind === "line" ? `${label}  \u2717 ${number}` : label;
+    const widest = Math.max(widthOf(first, NAME), ...below.map((says) => widthOf(says, BELOW)), ownHigh > 0 && own ? widthOf(own, BELOW) : 0);
+    return {width: widest * WIDER + 12, height: high + (own ? ownHigh : 0)};
 }
 
 /** The room for a name above a price. */

@@ -8,6 +8,7 @@ import {drawing, keepingFocus, part, write} from "../shell/page.js";
 import {stepOf} from "../told/story.js";
 import {supposedScene} from "../whatif/difference.js";
 import {isOther} from "../whatif/suppose.js";
+import {leaveOut} from "./hint.js";
 import {isTable} from "./plan.js";
 import {moodOf, stageOf} from "./stage.js";
 
@@ -16,10 +17,16 @@ const STEP = 60, ZOOM = 1.25, MOST_ZOOM = 12;
 
 let size = {width: 100, height: 100}, drawnOf = null;
 
-/** The shape of the place that the picture has. */
-function shapeNow() {
-    const across = part("stage").clientWidth;
-    return across > 1150 ? "wide" : across < 520 ? "narrow" : "usual";
+/** In steps of how many pixels the room of the picture is told, and how much is kept of a page for what stands around a wide picture. */
+const GRID = 8, AROUND = 230, LEAST = 420;
+
+/** The room that the picture has in the page, in pixels; below a wide one, or on a small screen, there may be more. */
+function roomNow() {
+    const {clientWidth: width, clientHeight} = part("stage"), isWide = document.documentElement.dataset.wide === "true";
+    const isTall = isWide || innerWidth <= 900, onSmall = isTall ? Math.max(0.52 * innerHeight, 300) : clientHeight;
+    const height = isWide ? Math.max(innerHeight - AROUND, LEAST) : onSmall;
+    const [across, down] = [width, height].map((each) => Math.max(160, Math.floor(each / GRID) * GRID));
+    return {width: across, height: down, isTall};
 }
 
 /** What else of a value the picture is made of. */
@@ -27,7 +34,7 @@ const SHOWN = ["document", "guess", "judged", "reason", "compared"];
 
 /** Draws what a value has to show. */
 export function showScene(value) {
-    const scene = sceneOf(value), key = JSON.stringify([scene.key, shapeNow(), value.view.hasOwn, value.view.firm, value.selection, [...scene.marks]]);
+    const scene = sceneOf(value), key = JSON.stringify([scene.key, roomNow(), value.view.hasOwn, value.view.firm, value.selection, [...scene.marks]]);
     const isNew = drawnOf === null || drawnOf.key !== key || SHOWN.some((name) => drawnOf[name] !== value[name]);
     if (isNew) draw(scene, value);
     drawnOf = {key, ...Object.fromEntries(SHOWN.map((name) => [name, value[name]]))};
@@ -43,8 +50,9 @@ function isBehind(value) {
 
 function draw(scene, value) {
     const network = networkOf(value.document), stage = part("stage"), firm = neighbourhood(value);
-    const drawn = stageOf({...scene, network, firm, hasOwn: value.view.hasOwn, shape: shapeNow(), selection: scene.signs ? null : value.selection});
+    const room = roomNow(), drawn = stageOf({...scene, network, firm, hasOwn: value.view.hasOwn, room, selection: scene.signs ? null : value.selection});
     size = drawn;
+    stage.style.setProperty("--tall", room.isTall && drawn.plan.zoom === 1 ? `${Math.ceil(drawn.height) + 2}px` : "0px");
     keepingFocus(stage, () => stage.replaceChildren(drawing(drawn.svg)));
     write("legend", legendOf(network, firm, scene));
 }
@@ -103,10 +111,18 @@ function signedLines({judged}) {
     const {over} = networkOf(judged.document).outcome;
     return new Map([...judged.has].map(([firm, has]) => {
         const number = has === null ? say("word.impossible") : fraction(has, over);
-        return [firm, {firm, mood: isLasting ? "content" : "unknown",
+        const drop = judged.drops.get(firm)?.said;
+        if (drop && has !== null && drop.gain !== null) return [firm, droppedLine(firm, has, over, drop)];
+        return [firm, {firm, mood: drop ? "objects" : isLasting ? "content" : "unknown",
             below: [isLasting ? `\u2713 ${number}` : say("word.has", {number})],
             says: has === null ? say("stage.signed_impossible") : say("stage.by_signed", {number})}];
     }));
+}
+
+/** What a firm has, and could have by what it keeps alone. */
+function droppedLine(firm, has, over, {gain, over: other}) {
+    const below = [say("word.has", {number: fraction(has, over)}), say("word.then", {number: fraction(has * other + gain * over, over * other)})];
+    return {firm, mood: "objects", below, says: below.join(", ")};
 }
 
 /** How the trades of a step are drawn, by the part that they play in it. */
@@ -148,6 +164,7 @@ function marksOfPath({trade, high_path: above, low_path: below}, isHigh) {
 function look(window) {
     const {x, y, width, height} = window ?? {x: 0, y: 0, ...size};
     part("stage").firstElementChild?.setAttribute("viewBox", `${x} ${y} ${width} ${height}`);
+    leaveOut(Math.min(part("stage").clientWidth / width, part("stage").clientHeight / height));
 }
 
 /** The window, larger or smaller by a factor around a point of the screen, or around its middle. */

@@ -4,7 +4,7 @@ import {arrow, escaped, INK, NORMAL, smooth, tag, text, widthOf} from "../../dra
 import {firmLabel, tradeLabel} from "../../words/labels.js";
 import {ownOf} from "../../say/own.js";
 import {say} from "../../words/say.js";
-import {BELOW, labelPlaces, NAME, planOf, PRICE} from "./plan.js";
+import {BELOW, EDGE, labelPlaces, NAME, planOf, PRICE} from "./plan.js";
 
 /** How far lines in a box stand from each other. */
 const HIGH = 16;
@@ -26,18 +26,18 @@ function digitsOf(stands, lines) {
  * `firms`, by name, or `{mood, below, says}` with what is to be said of a firm, `marks` the colours of trades with what they say,
  * `focus` the names of the firms that are spoken of, and `selection` what is chosen.
  */
-export function stageOf({network, firm, shape, stands, lines, marks, focus, selection, hasOwn}) {
+export function stageOf({network, firm, room, stands, lines, marks, focus, selection, hasOwn}) {
     const digits = digitsOf(stands, [...lines.values()]);
     const own = new Map(hasOwn ? network.firms.map(({name}) => [name, ownOf(network, name)]).filter(([, said]) => said !== null) : []);
-    const plan = planOf(network, firm, digits, shape, own), on = new Set(stands.on ?? []);
+    const plan = planOf(network, firm, digits, room, own), on = new Set(stands.on ?? []);
     const lanes = plan.lanes.map((lane) => laneAt(lane, on, stands, marks, selection));
     const named = new Set(plan.lanes.filter((_, k) => lanes[k].isNamed)), labels = labelPlaces(plan, digits, (lane) => named.has(lane));
-    const drawn = lanes.map((lane, k) => ({lane, svg: laneSvg(lane, plan.places.arrows[k].points, labels[k], plan.isClose)}));
+    const drawn = lanes.map((lane, k) => ({lane, svg: laneSvg(lane, plan.places.arrows[k].points, labels[k], plan.way)}));
     drawn.sort((one, other) => one.lane.rank - other.lane.rank);
     const isChosen = ({name}) => focus.has(name) || (selection?.kind === "firm" && selection.name === name);
-    const boxes = plan.boxes.map((box) => firmSvg(box, plan.places.centers.get(box.id), lines.get(box.name), isChosen(box), plan.isClose, own.get(box.name)));
-    const width = plan.places.width + 24, height = plan.places.height + 24;
-    const whole = tag("g", {transform: "translate(12 12)"}, drawn.map(({svg}) => svg.line), boxes, drawn.map(({svg}) => svg.label));
+    const boxes = plan.boxes.map((box) => firmSvg(box, plan.places.centers.get(box.id), lines.get(box.name), isChosen(box), plan.way, own.get(box.name)));
+    const width = plan.places.width + 2 * EDGE, height = plan.places.height + 2 * EDGE;
+    const whole = tag("g", {transform: `translate(${EDGE} ${EDGE})`}, drawn.map(({svg}) => svg.line), boxes, drawn.map(({svg}) => svg.label));
     return {width, height, plan, svg: `<svg xmlns="http://www.w3.org/2000/svg" viewBox="0 0 ${width} ${height}">${whole}</svg>`};
 }
 
@@ -70,13 +70,13 @@ function shownPrices(stands) {
     return numbers.get(stands);
 }
 
-function laneSvg(lane, points, at, isClose) {
+function laneSvg(lane, points, at, {isLine}) {
     const ink = lane.mark?.ink ?? (lane.isOn ? INK : OFF);
     const width = lane.mark?.width ?? (lane.isOn ? 4 : lane.mark ? 2 : 1.2);
     const drawn = arrow(points, {ink, width, dashes: !lane.isOn && lane.mark ? lane.mark.dashes ?? "7 4" : null});
     const says = laneSays(lane), chosen = lane.isChosen ? " chosen" : "";
     const attributes = {class: `lane${lane.isOn ? " on" : ""}${chosen}`, "data-key": lane.key, "data-trades": lane.trades.join(" ")};
-    const words = isClose ? lineLabel : twoLines;
+    const words = isLine ? lineLabel : twoLines;
     return {
         line: tag("g", {...attributes, role: "button", tabindex: 0, "aria-pressed": lane.isOn ? "true" : "false", "aria-label": says},
             tag("title", {}, escaped(says)), tag("path", {class: "hit", d: smooth(points)}), drawn),
@@ -115,15 +115,20 @@ function lineLabel(lane, {x, y}, ink) {
     return [tag("rect", {x: x - width / 2, y: y - 8, width, height: 16, rx: 3}), text(x, y + 4, says, {ink, weight: isOn ? "bold" : null})];
 }
 
-function firmSvg({name, width, height}, {x, y}, line, isChosen, isClose, own) {
-    const mood = moodOf(line);
-    const box = {x: x - width / 2, y: y - height / 2, width, height, rx: 6};
+function firmSvg({name, width, height}, {x, y}, line, isChosen, way, own) {
+    const mood = moodOf(line), says = firmSays(name, line), label = own ? say("stage.firm_own", {says, own: own.whole}) : says;
     const attributes = {class: `firm ${mood}${isChosen ? " chosen" : ""}`, "data-key": `firm:${name}`, "data-firm": name};
-    const style = {size: BELOW, ink: INKS[mood] ?? BAD, weight: INKS[mood] ? null : "bold"};
-    const lines = line ? belowOf(line, isClose) : [], has = own && !isClose ? [own.short] : [], top = y + 4 - (has.length + lines.length) * HIGH / 2;
-    const ownStyle = {size: BELOW, ink: OFF};
-    return tag("g", {...attributes, role: "button", tabindex: 0, "aria-label": own ? say("stage.firm_own", {says: firmSays(name, line), own: own.whole}) : firmSays(name, line)}, titleOf(name, own), tag("rect", box),
-        text(x, top, firmLabel(name), {size: NAME, weight: "bold"}), has.map((says) => text(x, top + 1 + HIGH, says, ownStyle)), lines.map((says, k) => text(x, top + 1 + (has.length + k + 1) * HIGH, says, style)));
+    const box = {x: x - width / 2, y: y - height / 2, width, height, rx: 6};
+    return tag("g", {...attributes, role: "button", tabindex: 0, "aria-label": label}, titleOf(name, own), tag("rect", box), inBox(name, {x, y}, line, way, own));
+}
+
+/** What stands in a firm's box: its name, its own numbers, and what it has, each in a line, or name and what it has in one. */
+function inBox(name, {x, y}, line, way, own) {
+    const mood = moodOf(line), state = {size: BELOW, ink: INKS[mood] ?? BAD, weight: INKS[mood] ? null : "bold"};
+    const lines = line ? belowOf(line, way.kind) : [], title = [firmLabel(name), {size: NAME, weight: "bold"}];
+    if (way.kind === "line") return text(x, y + 5, [firmLabel(name), ...lines].join("  "), {...state, size: BELOW, weight: "bold"});
+    const all = [title, ...(own && way.own > 0 ? [[own.short, {size: BELOW, ink: OFF}]] : []), ...lines.map((says) => [says, state])];
+    return all.map(([says, style], k) => text(x, y + 4 - (all.length - 1) * HIGH / 2 + k * (HIGH + 0.5), says, style));
 }
 
 /** What a pointer that rests on a box is told: the name behind a label, and all of the firm's own numbers. */
@@ -139,13 +144,16 @@ export function moodOf(line) {
 }
 
 /** What stands below the name of a firm: a sign and its utility, and the best that it could have where there is room. */
-function belowOf(line, isClose) {
-    if (line.below) return isClose ? line.below.slice(-1) : line.below;
+function belowOf(line, kind) {
+    const all = line.below ?? stateOf(line);
+    if (kind === "whole") return all;
+    return kind === "close" ? [all.join(", ")] : line.below ? all.slice(-1) : [all[0] === "\u2717" ? `\u2717 ${say("word.none")}` : all[0]];
+}
+
+function stateOf(line) {
     const mood = moodOf(line);
     if (mood === "content") return [`\u2713 ${line.utility}`];
-    if (mood === "impossible") return isClose ? [`\u2717 ${say("word.none")}`] : ["\u2717", say("word.impossible")];
-    return isClose ? [`\u2717 ${line.utility}`]
-        : [`\u2717 ${line.utility}`, say("word.best", {number: line.best_utility})];
+    return mood === "impossible" ? ["\u2717", say("word.impossible")] : [`\u2717 ${line.utility}`, say("word.best", {number: line.best_utility})];
 }
 
 /** A firm in words. */

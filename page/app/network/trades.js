@@ -88,6 +88,11 @@ function rowsOf(network, value) {
         && (filter === "" || [name, seller, buyer, tradeLabel(name), firmLabel(seller), firmLabel(buyer)].join(" ").toLowerCase().includes(filter.toLowerCase())));
 }
 
+/** The trades that the table shows: those of a chosen firm, and of what is looked for. */
+export function shownTrades(value) {
+    return rowsOf(networkOf(value.document), value);
+}
+
 function sorted(all, {by, isDown}) {
     if (by === null) return all;
     const order = (one, other) => (typeof one === "bigint" && typeof other === "bigint" ? (one < other ? -1 : one > other ? 1 : 0)

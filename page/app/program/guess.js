@@ -3,9 +3,11 @@
 import {failingOf} from "../../draw/triple.js";
 import {whyPicture} from "../../draw/why.js";
 import {NoAnswer, readAnswer} from "../../read/answer.js";
+import {droppers} from "../../read/dropping.js";
 import {haves} from "../../read/firms.js";
 import {simplest} from "../../read/simpler.js";
 import {explain} from "../../say/explain.js";
+import {shownNone} from "../../say/none.js";
 import {storyOf} from "../../say/story.js";
 import {say} from "../../words/say.js";
 import {claimOf} from "../document/claims.js";
@@ -82,8 +84,10 @@ async function readHere(words, bytes, document, ask) {
 }
 
 /**
- * An answer to a document, as `{document, said, sentences, mark, isNone, story, svg, has}`. `isNone` says that the document hasn't the
- * part that is asked about; the last three are of an answer of `judge`, or `support`: why it is so, and what each firm has by contracts.
+ * An answer to a document, as `{document, said, sentences, mark, isNone, story, svg, has, drops, none}`. `isNone` says that the document
+ * hasn't the part that is asked about; `story`, `svg`, `has` and `drops` are of an answer of `judge`, or `support`: why it is so, what each
+ * firm has by contracts, and a Map from each firm that would drop some to what is said of that; `none` is what shows whether there are
+ * prices, where a table fails the exchange property.
  */
 async function understood(document, words, {bytes}, ask) {
     const network = networkOf(document);
@@ -99,7 +103,14 @@ async function understood(document, words, {bytes}, ask) {
     const sentences = await explain(network, said, isAsking ? ask : null);
     const told = {document, said, isNone, sentences, mark: isFault && !isNone ? markOf(network, said) : null};
     if (!["judge", "support"].includes(words)) return told;
-    return {...told, ...await tellingOf(network, said, ask), has: isFault || words === "support" ? new Map() : await haves(ask, network)};
+    const has = isFault || words === "support" ? new Map() : await haves(ask, network), drops = said.answer === "drops" ? await dropsOf(network, said, ask) : new Map();
+    return {...told, ...await tellingOf(network, said, ask), has, drops, none: said.answer === "exchange_fails" ? await shownNone(network, ask) : null};
+}
+
+/** Each firm that would drop contracts, with the answer and a sentence of it. */
+async function dropsOf(network, first, ask) {
+    const all = await droppers(ask, network, first), lines = await Promise.all(all.map((said) => explain(network, said, null)));
+    return new Map(all.map((said, k) => [said.firm, {said, says: lines[k][2]}]));
 }
 
 /** Whether a place is that of the part that a command asks about, or of the prices of a guess, and a document hasn't that. */

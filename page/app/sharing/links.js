@@ -4,14 +4,14 @@ import {linkEnd} from "../shell/language.js";
 import {drawing, offer, on, part} from "../shell/page.js";
 import {codeOf, MOST_IN_CODE} from "./code.js";
 import {stem} from "./exports.js";
-import {fragmentOf, MOST_LETTERS} from "./link.js";
+import {EASY_END, fragmentOf, MOST_LETTERS} from "./link.js";
 
 /** The link that was made last, and the picture of its code, or null. */
 let link = {name: "", fragment: "", svg: null};
 
 /** Binds all that. */
 export function bindLinks(store) {
-    on("link", () => makeLink(store.value.document));
+    on("link", () => makeLink(store.value.document, store.value.view));
     on("linked-close", () => (part("linked").hidden = true));
     on("code", () => {
         part("code-part").hidden = false;
@@ -31,8 +31,14 @@ function here() {
     return location.href.replace(/#.*$/, "");
 }
 
-async function makeLink({name, bytes}) {
-    const fragment = `${await fragmentOf(bytes)}${linkEnd()}`, isLong = fragment.length > MOST_LETTERS;
+/** Makes a link of a document, and shows it. */
+function makeLink({name, bytes}, {isEasy}) {
+    return showLink(name, fragmentOf(bytes), isEasy ? EASY_END : "");
+}
+
+/** Shows a link, by the promise of its fragment and what else is to stand behind it. */
+export async function showLink(name, made, end = "") {
+    const fragment = `${await made}${linkEnd()}${end}`, isLong = fragment.length > MOST_LETTERS;
     link = {name, fragment, svg: null};
     part("linked").hidden = false;
     for (const id of ["fragment", "code"]) part(id).hidden = isLong;

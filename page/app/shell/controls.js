@@ -12,6 +12,7 @@ import {sortedOut} from "../exercise/results.js";
 import {objectors} from "../network/firms.js";
 import {zoomIn, zoomOut} from "../network/scene.js";
 import {COMMANDS} from "../program/commands.js";
+import {bindCards} from "../sharing/cards.js";
 import {firmsTable, rangesTable, saveAnswer, saveDocument, savePicture, savePixels, stem} from "../sharing/exports.js";
 import {bindLinks} from "../sharing/links.js";
 import {copyTable, saveTable} from "../sharing/tables.js";
@@ -25,18 +26,20 @@ let last = [];
 /** The actions that change the document. */
 const CHANGES = ["opened", "typed", "edited", "undone", "redone", "resumed", "left"];
 
-/** Binds everything. `documents` are the examples in groups; `run` asks and ends the command. */
+/** Binds everything. `documents` are the examples in groups; `run` asks and ends the command, and answers another one beside it. */
 export function bind(store, documents, run) {
     bindDocument(store, documents);
+    bindMenu();
     bindHistory(store);
     bindNotices(store);
     bindScene(store);
     bindGuess(store, run);
-    bindReasons(store);
+    bindReasons(store, run);
     bindTabs(store);
     bindCommand(store, run);
     bindLinks(store);
-    bindLesson(store, documents[0][1][0]);
+    bindCards(store);
+    bindLesson(store, documents[0][1][0], run);
     bindBegun(store, CHANGES);
     bindKept(store);
 }
@@ -88,6 +91,16 @@ function bindDocument(store, documents) {
     on("fault-go", () => goTo(faulty(store.value).mark));
 }
 
+/** On a small screen some of the buttons are behind one. */
+function bindMenu() {
+    const page = document.documentElement, set = (isOpen) => {
+        page.dataset.menu = isOpen ? "open" : "closed";
+        part("menu").setAttribute("aria-expanded", `${isOpen}`);
+    };
+    on("menu", () => set(page.dataset.menu === "closed"));
+    set(false);
+}
+
 /** One history, also while somebody types in a field of a price. */
 function bindHistory(store) {
     on("undo", () => store.act("undone"));
@@ -121,7 +134,8 @@ function bindScene(store) {
     on("wide", () => store.act("looked", {isWide: part("wide").getAttribute("aria-pressed") !== "true"}));
     for (const [id, save] of [["picture-save", savePicture], ["picture-pixels", savePixels]]) on(id, () => save(store.value, part("verdict").textContent));
     on("objects", () => stepObjectors(store));
-    part("firms").addEventListener("click", ({target}) => {
+    on("all-objects", () => store.act("looked", {hasAll: !store.value.view.hasAll}));
+    for (const id of ["firms", "objectors"]) part(id).addEventListener("click", ({target}) => {
         const name = target.closest("[data-firm]")?.dataset.firm;
         if (name !== undefined) store.act("selected", {kind: "firm", name});
     });

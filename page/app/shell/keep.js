@@ -1,7 +1,8 @@
-// The documents of last time, one for each tab, what was begun of exercises, and the language that was chosen, which the browser keeps where it lets
-// pages do so. Nothing depends on them, and no name of a pupil is among them.
+// The documents of last time, one for each tab, what was begun of exercises, the language that was chosen, whether the page is
+// easy and its first steps are known, which the browser keeps where it lets pages do so. Nothing depends on them, and no name of a pupil is among them.
 
-const KEY = "market: the document", EXERCISES = "market: the exercises", LANGUAGE = "market: the language", WAIT = 300;
+const KEY = "market: the document", EXERCISES = "market: the exercises", LANGUAGE = "market: the language", EASY = "market: easy", STEPS = "market: the steps",
+    WAIT = 300;
 
 /** Of how many exercises what was begun is kept, and of how many tabs the document. */
 const MOST = 8, MOST_TABS = 3;
@@ -85,9 +86,28 @@ export function keptLanguage() {
     return tried(() => localStorage.getItem(LANGUAGE));
 }
 
+/** Keeps whether the page is easy. */
+export function keepEasy(isEasy) {
+    if (isEasy) put(EASY, true);
+    else remove(EASY);
+}
+
+export function keptEasy() {
+    return read(EASY) === true;
+}
+
+/** Keeps that the first steps were dismissed. */
+export function keepSteps() {
+    put(STEPS, true);
+}
+
+export function areStepsDone() {
+    return read(STEPS) === true;
+}
+
 /** Forgets all that is kept. */
 export function forgetAll() {
-    for (const key of [KEY, EXERCISES, LANGUAGE]) remove(key);
+    for (const key of [KEY, EXERCISES, LANGUAGE, EASY, STEPS]) remove(key);
 }
 
 /** A browser may refuse, by a setting or from a disk. */

@@ -6,7 +6,9 @@ import {hasArrangement} from "../document/edits.js";
 import {isOneLine} from "../document/lines.js";
 import {faulty, isOld, networkOf} from "../document/state.js";
 import {isTable} from "../network/plan.js";
+import {showSteps} from "./help.js";
 import {part, write} from "./page.js";
+import {showWays} from "./ways.js";
 
 /** The views of the panel, each with the part of the page that it has: a guess and what is signed share the table of trades. */
 const PANELS = {guess: "panel-guess", sign: "panel-guess", whatif: "panel-whatif", claim: "panel-claim", build: "panel-build",
@@ -31,6 +33,8 @@ export function showShell(value) {
     part("own").setAttribute("aria-pressed", `${view.hasOwn}`);
     able("undo", past.length > 0);
     able("redo", future.length > 0);
+    showWays(value);
+    showSteps(value);
     showPanel(view.panel);
     showNote(value);
     showMode(value);
@@ -118,7 +122,7 @@ function showOver(value) {
     const {answer, view} = value, isOver = view.isOver && answer?.said?.answer === "solved" && !isOld(value, answer);
     part("over").hidden = !isOver;
     part("verdict-row").hidden = isOver;
-    part("told").hidden = isOver;
+    part("said").hidden = isOver;
     if (isOver) write("over-says", say("verdict.solved", {surplus: answer.said.surplus}));
 }
 

@@ -41,6 +41,12 @@ function sayAll() {
     for (const id of ["maker-says", "denominator-says"]) part(id).textContent = "";
 }
 
+/** Says again what stands in the page, where firms are called otherwise than before. */
+export function sayAgain() {
+    tellPage();
+    sayControls();
+}
+
 /** Fills the elements that name their texts. */
 export function tellPage() {
     document.documentElement.lang = language();
@@ -48,6 +54,7 @@ export function tellPage() {
     const all = (attribute) => document.querySelectorAll(`[data-${attribute}]`);
     for (const element of all("say")) tell(element);
     for (const element of all("label")) element.setAttribute("aria-label", say(element.dataset.label));
+    for (const element of all("tip")) element.title = say(element.dataset.tip);
     for (const element of all("placeholder")) element.placeholder = say(element.dataset.placeholder);
 }
 

@@ -3,14 +3,14 @@ import {say} from "../../words/say.js";
 import {claimedAs, claimOf} from "../document/claims.js";
 import {goTo, refreshEditor} from "../document/editor.js";
 import {isOld, networkOf} from "../document/state.js";
-import {arrange, countOver, signGuess, termsOf} from "../document/terms.js";
+import {arrange, countOver, guessSigned, signAt, signGuess, termsOf} from "../document/terms.js";
 import {on, part} from "../shell/page.js";
 import {reasonOf, stepOf} from "./story.js";
 
-/** Binds all that. */
-export function bindReasons(store) {
+/** Binds all that. `run` answers a command for the present document. */
+export function bindReasons(store, run) {
     bindStory(store);
-    bindSigning(store);
+    bindSigning(store, run);
     bindClaims(store);
 }
 
@@ -29,13 +29,20 @@ function bindStory(store) {
     });
     on("reason-close", () => store.act("looked", {hasReason: false}));
     on("reason-take", () => {
-        arrange(store, [...termsOf(store.value).on], reasonOf(store.value).said.prices);
+        const {said, none} = reasonOf(store.value), found = none?.arrangement ?? {on: [...termsOf(store.value).on], prices: said.prices};
+        arrange(store, found.on, found.prices);
         store.act("went", "guess");
     });
 }
 
-function bindSigning(store) {
+function bindSigning(store, {said}) {
     on("sign-guess", () => signGuess(store));
+    for (const [id, side] of [["sign-low", "low"], ["sign-high", "high"]]) on(id, () => signBest(store, side, said));
+    on("sign-back", () => {
+        const isTaken = guessSigned(store);
+        if (isTaken) store.act("went", "guess");
+        else part("denominator-says").textContent = say("sign.no_guess");
+    });
     part("denominator").addEventListener("change", () => {
         const text = part("denominator").value.trim(), isOne = /^([1-9]\d?|100)$/.test(text);
         const isCounted = isOne && countOver(store, BigInt(text));
@@ -51,8 +58,16 @@ export function claim(store, told) {
     store.act("went", "claim");
 }
 
+/** Signs an efficient set of trades at all lowest or all highest prices, which the program answers. */
+async function signBest(store, side, said) {
+    const {document} = store.value, ranges = await said(["range"]);
+    if (store.value.document !== document || ranges === null) return;
+    part("denominator-says").textContent = signAt(store, ranges, side) ? "" : say("sign.no_bounds");
+}
+
 function bindClaims(store) {
     on("reason-claim", () => claim(store, reasonOf(store.value)));
+    on("none-claim", () => claim(store, {...reasonOf(store.value), said: reasonOf(store.value).none.claim}));
     on("claim-go", () => {
         store.act("went", "document");
         refreshEditor();

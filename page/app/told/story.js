@@ -37,9 +37,10 @@ function showButtons(value, told) {
     const old = isOld(value, told);
     part("reason").classList.toggle("old", old);
     part("reason-close").hidden = value.view.mode === "sign";
-    part("reason-take").hidden = !canBeTaken(told.said);
+    part("reason-take").hidden = !canBeTaken(told.said) && !told.none?.arrangement;
+    part("none-claim").hidden = !told.none?.claim;
     part("reason-claim").hidden = !canBeClaimed(told.said);
-    for (const id of ["reason-take", "reason-claim"]) part(id).setAttribute("aria-disabled", `${old}`);
+    for (const id of ["reason-take", "reason-claim", "none-claim"]) part(id).setAttribute("aria-disabled", `${old}`);
 }
 
 /** Whether an answer has whole prices for all trades, which a guess can have. */
@@ -62,13 +63,19 @@ function showStep(value) {
     part("story-next").setAttribute("aria-disabled", `${place === count - 1}`);
 }
 
-/** The list of the steps, each a button that goes to it, and the picture; of an answer without a story its sentences. */
-function fill({story, sentences, svg}) {
-    const lines = story === null ? sentences.map((line) => made("p", line)) : [made("p", story.head), listOf(story.steps)];
+/**
+ * The list of the steps, each a button that goes to it, and the picture; of an answer without a story its sentences. Behind them stands
+ * what shows whether there are prices, where that was looked for.
+ */
+function fill({story, sentences, svg, none}) {
+    const own = story === null ? sentences.map((line) => made("p", line)) : [made("p", story.head), listOf(story.steps)];
+    const lines = [...own, ...(none?.lines ?? []).map((line) => made("p", line))];
     keepingFocus(part("reason-lines"), () => part("reason-lines").replaceChildren(...lines));
-    const figure = made("figure");
-    if (svg) figure.append(drawing(svg));
-    part("reason-picture").replaceChildren(...(svg ? [figure] : []));
+    part("reason-picture").replaceChildren(...[svg, none?.svg].filter(Boolean).map((picture) => {
+        const figure = made("figure");
+        figure.append(drawing(picture));
+        return figure;
+    }));
 }
 
 function listOf(steps) {

@@ -5,6 +5,7 @@ import {compared, contributions, editsOf, isIn, ownStart} from "../../read/state
 import {explain} from "../../say/explain.js";
 import {isOld, networkOf} from "../document/state.js";
 import {Ended, inText, NoAnswerCame} from "../program/ask.js";
+import {failingLine, isFailing} from "../told/failing.js";
 
 /** Whether there is no such view: in an exercise it would tell the solution. */
 export function isHidden({document}) {
@@ -87,7 +88,8 @@ export class Suppositions {
 async function comparison(ask, network, supposed, from) {
     const [before, after] = [supposed.before, supposed.after].map((edits) => editsOf(network, edits));
     const start = await ownStart(ask, network, from), {states, said} = await compared(ask, network, before, after, start);
-    return {before, after, states, isOwn: start !== null, sentences: states === null ? await explain(network, said, ask) : []};
+    const sentences = states !== null ? [] : isFailing(said) ? [failingLine(network, said, null)] : await explain(network, said, ask);
+    return {before, after, states, isOwn: start !== null, sentences};
 }
 
 async function contribution(ask, network, {before}) {

@@ -1,6 +1,6 @@
 // What if: firms that leave and join, trades that come and go, before and after side by side, and what each contributes.
 import {editsBetween, editsTo, isIn} from "../../read/states.js";
-import {beforeLine, firmStates, gainOf, partOf, sharesLine, startLine, tradeStates} from "../../say/whatif.js";
+import {beforeLine, firmStates, gainOf, paidOf, partOf, sharesLine, startLine, tradeStates} from "../../say/whatif.js";
 import {say} from "../../words/say.js";
 import {goTo, refreshEditor} from "../document/editor.js";
 import {memberAs} from "../document/edits.js";
@@ -8,7 +8,7 @@ import {networkOf} from "../document/state.js";
 import {keepingFocus, made, on, part} from "../shell/page.js";
 import {areOthers, isAsked, isHidden, isOther, suppose} from "./suppose.js";
 
-const FIRM_HEADS = ["head.firm", "head.before", "head.after", "head.change", "head.contributes"];
+const FIRM_HEADS = ["head.firm", "head.before", "head.after", "head.change", "head.contributes", "head.vcg"];
 const TRADE_HEADS = ["head.trade", "head.before", "head.after", null, "head.contributes"];
 
 /** Binds what a user does in the view. */
@@ -63,7 +63,7 @@ function able(id, isAble) {
 
 function fill(said, supposed, found) {
     const network = networkOf(said.document),
-        lines = [beforeLine(said), startLine(said), found && sharesLine(said), say("whatif.depend")];
+        lines = [beforeLine(said), startLine(said), found && sharesLine(said), found && say("whatif.vcg"), say("whatif.depend")];
     part("whatif-lines").replaceChildren(...lines.filter(Boolean).map((line) => made("p", line)));
     table("whatif-firms", FIRM_HEADS, network.firms.map(({name}) => firmRow(said, name, supposed, found)));
     table("whatif-trades", TRADE_HEADS, network.trades.map((trade) => tradeRow(said, trade, supposed, found)));
@@ -98,7 +98,7 @@ function numbers(texts) {
 
 function firmRow(said, name, supposed, found) {
     const change = gainOf(said, name), signed = change > 0n ? `+${change}` : change, edit = ["leave", name];
-    const cells = numbers([...firmStates(said, name), signed, found?.firms.get(name)]);
+    const share = found?.firms.get(name), cells = numbers([...firmStates(said, name), signed, share, found && paidOf(said, name, found)]);
     const attributes = {"data-firm": name, class: isIn(supposed.after, edit) ? "away" : null};
     return rowOf([headOf(edit, say("whatif.is_there", {name}), supposed), ...cells], attributes);
 }

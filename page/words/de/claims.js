@@ -51,6 +51,12 @@ export const CLAIMS = {
         below: "Unter dem Namen einer Firma stehen ihre Anteile, mit dem, was diese Bündel ihr wert sind; an einem Pfeil "
             + "steht, wie viel des Geschäfts verkauft wird.",
     },
+    none: {
+        none: "Keine Preise stellen alle zufrieden. Anteile an Bündeln, in denen jedes Geschäft so oft gekauft wie verkauft wird, "
+            + "zeigen es:",
+        prices: "Es gibt trotzdem Preise, mit denen alle zufrieden sind, wenn {trades} stattfinden: {prices}.",
+        price: "{trade} zu {price}",
+    },
     reason: {
         exchange: "{firm} erfüllt sie nicht.", unknown: "Der Grund ist {reason}.",
         impossible: "Was {firm} hat, ist für diese Firma unmöglich.",

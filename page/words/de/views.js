@@ -9,6 +9,9 @@ export const VIEWS = {
         not_signed: "Noch ist nichts unterschrieben: klicke auf ein Geschäft, um es zu unterschreiben.",
         no_guess: "Noch kein Vorschlag: klicke auf ein Geschäft, oder drücke „Lösen“.",
         no_prices: "Die Geschäfte haben noch keine Preise: tippe welche ein, oder frage, ob es welche gibt.",
+        complements: "Diese Güter sind für {firm} Komplemente; vielleicht stellen keine Preise alle zufrieden.",
+        none: "Diese Güter sind für {firm} Komplemente, und keine Preise stellen alle zufrieden.",
+        priced: "Diese Güter sind für {firm} Komplemente, und doch stellen Preise alle zufrieden.",
         equilibrium: "Ein Gleichgewicht: Jede Firma ist zufrieden, und die Summe der Werte ist {surplus}.",
         no_equilibrium: {
             one: "Kein Gleichgewicht: {count} von {all} Firmen ist zufrieden.",
@@ -17,6 +20,7 @@ export const VIEWS = {
         lasts: "Es hält: Niemand würde einen Vertrag kündigen, und Preise ergänzen, was unterschrieben ist.",
         drops_all: "Es wird nicht eingehalten: {firm} würde die eigenen Verträge lieber kündigen.",
         drops_some: "Es wird nicht eingehalten: {firm} würde einige der eigenen Verträge lieber kündigen.",
+        drops_many: "Es wird nicht eingehalten: {count} Firmen würden lieber Verträge kündigen.",
         blocks: {
             one: "Es hält nicht: Ein anderer Vertrag blockiert es.",
             other: "Es hält nicht: Eine Kette von {count} anderen Verträgen blockiert es.",
@@ -26,13 +30,38 @@ export const VIEWS = {
         signed_impossible: "{firm} {does}, was für diese Firma unmöglich ist.",
         signed_utility: "{firm} {does}: Der Nutzen ist {utility}.",
     },
+    auction: {
+        begun: "Jeder Preis ist, was der Verkäufer mindestens will, und noch niemand hält etwas.",
+        no_trades: "Es gibt nichts zu verkaufen.",
+        both_sides: "Eine Firma hier kauft und verkauft. Eine Auktion will Verkäufer auf der einen Seite und Käufer auf der anderen.",
+        parallel: "Zwei Geschäfte hier haben denselben Verkäufer und Käufer. Eine Auktion will, dass jeder nur eines verkauft.",
+        several: "Ein Verkäufer hier verkauft mehrere, oder nicht an alle zu denselben Kosten. Eine Auktion will, dass jeder eines verkauft.",
+        complements: "Güter sind hier für eine Firma Komplemente; steigende Preise müssen nicht enden, wo alle zufrieden sind.",
+        fault: "Das Dokument hat einen Fehler.", too_large: "Die Zahlen sind zu groß für eine Auktion.",
+        item: "{item} zu {price}", bids: "{firm} bietet für {items}.",
+        outbids: {one: "{firm} bietet für {items}, und {others} ist überboten.", other: "{firm} bietet für {items}, und {others} sind überboten."},
+        matches: "{firm} bietet ebenso viel: {items}.",
+        loses: {one: "{firm} bekommt {items}, und {others} gibt auf.", other: "{firm} bekommt {items}, und {others} geben auf."},
+        ended: {one: "Niemand bietet mehr, nach {count} Schritt.", other: "Niemand bietet mehr, nach {count} Schritten."},
+        equilibrium: "Es ist ein Gleichgewicht.", gain: "Keine Firma hätte durch etwas anderes um mehr als {gain} mehr.",
+        lowest: "Die Preise sind die niedrigsten aller Gleichgewichte.",
+        above: "Kein Preis liegt mehr als {above} über dem niedrigsten aller Gleichgewichte.",
+        promised: "Nie hat jemand durch etwas anderes um mehr als 1 mehr, und Preise sind höchstens um {most} zu hoch (Demange, Gale und "
+            + "Sotomayor, 1986).",
+        rule_one: "Die Regel: Jeder Preis ist zuerst, was der Verkäufer will. Der erste Käufer, der lieber etwas anderes hätte, wobei eins mehr "
+            + "kostet, was ein anderer hält, bietet dafür und hält es; wer es hielt, ist überboten.",
+        rule_several: "Die Regel: Jeder Preis ist zuerst, was der Verkäufer will. Der erste Käufer, der zu diesen Preisen lieber anderes hätte, "
+            + "bietet eins mehr für das, was andere halten; wer es hält und noch will, bietet ebenso viel (Kelso und Crawford, 1982).",
+        course: "Der Verlauf der Preise", steps: {one: "{count} Schritt", other: "{count} Schritte"}, table: "Die Schritte",
+    },
     own: {
-        from_to: "{low} bis {high}", sells: "verkauft ab {price}", pays: "zahlt bis {price}", makes: "macht es für {price}", most: "höchstens {count}",
+        sells: "verkauft ab {price}", pays: "zahlt bis {price}", makes: "macht es für {price}", most: "höchstens {count}",
         worth: "{bundle}: {worth}", passes: "gibt eines weiter", costs: "mit Kosten von {price}", gains: "und bekommt {price} mehr", keeps: "behält es für {price}",
-        matches: "gibt weiter für {price}",
+        matches: "gibt weiter für {price}", passed: "als {sale} für {price}", together: "{number} für {count} zusammen", together_of: "{number} für {count} von {trades}",
     },
     stage: {
-        firm_own: "{says}. Die Firma: {own}",
+        one_price: {one: "Ein Preis für das gezeigte Geschäft: {price}", other: "Ein Preis für die {count} gezeigten Geschäfte: {price}"},
+        firm_own: "{says}. Eigene Zahlen: {own}",
         less: "Preis von {name} senken", more: "Preis von {name} erhöhen",
         firm: "Firma {name}", firm_says: "Firma {name}: {says}",
         firm_content: "Firma {name}, zufrieden mit einem Nutzen von {utility}",
@@ -110,6 +139,8 @@ export const VIEWS = {
             + "oder das Geschäft kleiner wäre.",
         shares_while: "Beitrag: um wie viel die Summe der Werte, die jetzt {surplus} ist ({missing}), ohne die "
             + "Firma oder das Geschäft kleiner wäre.",
+        vcg: "VCG-Zahlung: was eine Firma nach der Regel von Vickrey, Clarke und Groves zahlt, nach der sie gerade ihren "
+            + "Beitrag behält; was unter 0 ist, bekommt sie.",
         guess: "Vorher steht der Vorschlag, der ein Gleichgewicht ist.",
         no_guess: "Vorher steht ein Gleichgewicht, das das Programm gefunden hat: Der Vorschlag ist keines.",
         signed: "Vorher steht, was unterschrieben ist und hält, mit Preisen, die es ergänzen.",

@@ -33,49 +33,49 @@ export const ANSWERS = {
     },
     answer: {
         unknown: "The answer is {answer}.",
-        equilibrium: "This is an equilibrium: at these prices each firm has a bundle that is best for it, and "
+        equilibrium: "This is an equilibrium: at these prices each firm has a bundle that is best for [it|them], and "
             + "nobody would rather do something else.",
-        solved: "An equilibrium is found: at these prices each firm has a bundle that is best for it, and nobody "
+        solved: "An equilibrium is found: at these prices each firm has a bundle that is best for [it|them], and nobody "
             + "would rather do something else.",
         most: "The worths of the firms sum to {surplus}, and no other set of trades has more.",
-        prices: "There are prices for these trades: at those below each firm has a bundle that is best for it, and "
+        prices: "There are prices for these trades: at those below each firm has a bundle that is best for [it|them], and "
             + "nobody would rather do something else.",
         none_more: "No other set of trades has a greater sum of worths.",
         better: "This is no equilibrium: {firm} would do better.",
         as_it_is: "As it is, {firm} {does}.",
-        rather: "At these prices it would rather {do}: its utility is then greater by {gain}, and no bundle brings "
-            + "it more.",
+        rather: "At these prices [it|they] would rather {do}: [its|their] utility is then greater by {gain}, and no bundle brings "
+            + "[it|them] more.",
         better_before: {
             one: "{firms}, which stands before {firm} in the document, is content.",
             other: "{firms}, which stand before {firm} in the document, are content.",
         },
-        impossible: "This is no equilibrium at any prices: what {firm} has is impossible for it.",
+        impossible: "This is no equilibrium at any prices: what {firm} has is impossible for [it|them].",
         no_worth: "It {does}, and gives this bundle no worth.",
         impossible_before: {one: "What {firms} has is possible.", other: "What {firms} have is possible."},
-        all_content: "Every firm is content: at these prices each has a bundle that is best for it.",
+        all_content: "Every firm is content: at these prices each has a bundle that is best for [it|them].",
         content: "{count} of {all} firms are content.",
         no_sum: "What one of them has is impossible, so there is no sum of their worths.",
         sum: "The worths of the firms sum to {surplus}.",
-        firm_impossible: "{firm} {does}, which is impossible for it. It would best {do}: its utility is then {most}.",
-        firm_content: "{firm} {does}: worth {worth}, utility {utility}. It is content.",
-        firm_objects: "{firm} {does}: worth {worth}, utility {utility}. It would rather {do}: its utility is then "
+        firm_impossible: "{firm} {does}, which is impossible for [it|them]. [It|They] would best {do}: [its|their] utility is then {most}.",
+        firm_content: "{firm} {does}: worth {worth}, utility {utility}. [It|They] [is|are] content.",
+        firm_objects: "{firm} {does}: worth {worth}, utility {utility}. [It|They] would rather {do}: [its|their] utility is then "
             + "{most}, greater by {gain}.",
-        accepted: "Each firm meets the exchange property: its purchases are substitutes for each other, so are its "
-            + "sales, and a sale more never makes it want a purchase less.",
-        drops_all: "This outcome isn't kept: {firm} would rather drop its contracts.",
-        drops_some: "This outcome isn't kept: {firm} would rather drop some of its contracts.",
+        accepted: "Each firm meets the exchange property: [its|their] purchases are substitutes for each other, so are "
+            + "[its|their] sales, and a sale more never makes [it|them] want a purchase less.",
+        drops_all: "This outcome isn't kept: {firm} would rather drop [its|their] contracts.",
+        drops_some: "This outcome isn't kept: {firm} would rather drop some of [its|their] contracts.",
         by_signed: "By what is signed {firm} {does}.",
-        keeps_best: "It can't do that: it gives this bundle no worth. Of all that it may keep, it is best to keep "
+        keeps_best: "[It|They] can't do that: [it|they] [gives|give] this bundle no worth. Of all that [it|they] may keep, it is best to keep "
             + "{keeps}.",
-        keeps_rather: "It would rather keep {keeps}: its utility is then greater by {gain}, and to keep others "
-            + "brings it no more.",
+        keeps_rather: "[It|They] would rather keep {keeps}: [its|their] utility is then greater by {gain}, and to keep others "
+            + "brings [it|them] no more.",
         drops_before: {
             one: "{firms}, which stands before {firm} in the document, would keep all.",
             other: "{firms}, which stand before {firm} in the document, would keep all.",
         },
-        completes: "This outcome can stand: each firm would keep all its contracts, and there are prices for all "
+        completes: "This outcome can stand: each firm would keep all [its|their] contracts, and there are prices for all "
             + "trades at which nobody would rather do something else.",
-        blocks: "This outcome is blocked: each firm would keep all its contracts, but some would rather sign others.",
+        blocks: "This outcome is blocked: each firm would keep all [its|their] contracts, but some would rather sign others.",
         would_sign: "They would sign:",
         simpler: {
             one: "So they would at a simpler price, for instance {prices}.",
@@ -109,31 +109,31 @@ export const ANSWERS = {
             + "each price is paid once and got once. So at any prices at least one of them would rather make its "
             + "change.",
         free: "no cost", costs: "costs {cost}", gains: "gains {gain}",
-        impossible: "No prices go with these trades: what {firm} has is impossible for it.",
+        impossible: "No prices go with these trades: what {firm} has is impossible for [it|them].",
         no_worth: "{firm} {does}, and gives this bundle no worth.",
         first_bundle: "The first of two bundles is x = {x} to {firm}.",
         other_bundle: "The other one is y = {y}.",
         out_of_x: "To take {trade} out of x and into y leaves {x}, and {y}.",
         out_of_y: "To take {trade} out of y and into x leaves {x}, and {y}.",
         bundle_impossible: "{bundle}, which is impossible", bundle_worth: "{bundle}, worth {worth}",
-        cannot: "{firm} can't do all that. Of what it may keep, it is best to keep {keeps}: its utility is then "
+        cannot: "{firm} can't do all that. Of what [it|they] may keep, it is best to keep {keeps}: [its|their] utility is then "
             + "{could}.",
-        rather_keep: "{firm} has a utility of {has}. It would rather keep {keeps}, and have {could}, which is "
+        rather_keep: "{firm} has a utility of {has}. [It|They] would rather keep {keeps}, and have {could}, which is "
             + "{gain} more.",
-        chain: "Each firm would keep all its contracts, but some would rather sign others, which are a chain:",
-        would_have: "By what is signed {firm} has a utility of {now}; with its contracts of the chain it would have "
+        chain: "Each firm would keep all [its|their] contracts, but some would rather sign others, which are a chain:",
+        would_have: "By what is signed {firm} has a utility of {now}; with [its|their] contracts of the chain [it|they] would have "
             + "{then}.",
-        would_leave: "By what is signed {firm} has a utility of {now}; with its contracts of the chain it would "
+        would_leave: "By what is signed {firm} has a utility of {now}; with [its|their] contracts of the chain [it|they] would "
             + "have {then}, and leave {trades}.",
-        passes_limit: "What {firm} has and would have, and whether it would leave a contract, isn't told: counted in parts of "
+        passes_limit: "What {firm} has and would have, and whether [it|they] would leave a contract, isn't told: counted in parts of "
             + "1/{over} its numbers are larger than a document may have.",
         loses: "{firm} loses {trade}, and isn't asked.",
-        signs_others: "Each firm named there, whatever it keeps of what it has signed, would rather have all of "
+        signs_others: "Each firm named there, whatever [it|they] [keeps|keep] of what [it|they] [has|have] signed, would rather have all of "
             + "these that are its own. So no prices go with what is signed.",
     },
     range: {
         head: "The prices of each trade over all equilibria. Beyond them, whatever the other prices are, one of the "
-            + "firms named beside would rather make its change.",
+            + "firms named beside would rather make [its|their] change.",
         one: "{trade}, from {seller} to {buyer}: {range}.",
         several: "{trades}, each from {seller} to {buyer}: {range}. Of {trade}:",
         only: "{price}, and no other price", not_below: "not below {price}: {changes}.",

@@ -42,6 +42,11 @@ export const CLAIMS = {
         below: "Below the name of a firm are its shares, with what these bundles are worth to it; on an arrow is how "
             + "much of the trade is sold.",
     },
+    none: {
+        none: "No prices content all. Shares of bundles, in which each trade is bought as much as it is sold, show it:",
+        prices: "There are prices all the same at which all are content, with {trades} taking place: {prices}.",
+        price: "{trade} at {price}",
+    },
     reason: {
         exchange: "{firm} doesn't.", unknown: "The reason is {reason}.",
         impossible: "What {firm} has is impossible for it.",

@@ -27,10 +27,13 @@ export const PAGE = {
         leave_exercise: "Leave the exercise", leave_guess: "Back to the guess", link: "Link", loading: "The program is being loaded.",
         made_of: "Made of the sources with the checksum {sources}.",
         make: "Make it an exercise", maker: "Make an exercise", more_sentences: "{count} more sentences",
-        network: "Network", new: "New", next: "Next",
+        menu: "More buttons", network: "Network", new: "New", next: "Next",
         no_solution: "The page doesn't show the solution. Who reads the file, or asks elsewhere, can find it.",
+        all_objects: "All who object", results_draw: "All guesses as a diagram", link_result: "Link of the result", named_link: "with the name",
+        result_links: "Links of results:", auction: "Auction", auction_step: "Next bid", auction_play: "Play", auction_pause: "Pause", auction_again: "Begin again",
+        claim_shares: "Claim the shares", sign_low: "Sign at buyers' best", sign_high: "Sign at sellers' best",
         objects: "Who objects?", one_line: "This document stands on one long line.", open: "Open",
-        open_files: "Open a document, or results, from files", pupil: "Your name", ranges: "Price ranges",
+        open_files: "Open a document, or results, from files", pupil: "Your name, a nickname or a number", ranges: "Price ranges",
         ranges_csv: "Ranges as CSV", redo: "Redo", results: "Results", results_csv: "Results as CSV",
         results_forget: "Forget the results", save: "Save", save_answer: "Save answer", save_code: "Save the code",
         save_picture: "Save picture", save_result: "Save the result", sellers_best: "Sellers' best",
@@ -62,7 +65,7 @@ export const PAGE = {
         name: "Name", exercise: "Exercise", reached: "Reached", tries: "Tries", given: "Firms and trades",
         trade: "Trade", from: "From", to: "To", on: "On", signed: "Signed", price: "Price",
         price_over: "Price, in 1/{over}", bounds: "Bounds", before: "Before", after: "After", change: "Change",
-        contributes: "Contributes",
+        contributes: "Contributes", vcg: "VCG payment", step: "Step", happens: "What happens",
     },
     command: {
         solve: "find an equilibrium", range: "how far each price may move",
@@ -113,6 +116,11 @@ export const PAGE = {
             other: "This was begun here before, with {count} tries. If that wasn't you, begin anew.",
         },
     },
+    results: {
+        diagram: "What the class guessed", range: "the range in all equilibria", within: "a guess within it", beyond: "a guess beyond it",
+        guesses: {one: "{count} guess. A number says how many chose the same price.", other: "{count} guesses. A number says how many chose the same price."},
+        links: {one: "{count} result was opened.", other: "{count} results were opened."}, no_link: "This is no link of a result.",
+    },
     result: {
         counted: {one: "{count} result, {reached} reached.", other: "{count} results, {reached} reached."},
         show: "Show what this pupil saw", yes: "yes", other_market: "no: firms or trades were changed", content: "no: {count} of {all} firms are content",
@@ -128,6 +136,8 @@ export const PAGE = {
     },
     sign: {
         not_whole: "With this denominator a price isn't whole.",
+        no_guess: "Not all of these prices are whole, so they are no guess.",
+        no_bounds: "There are no such prices for all trades that take place.",
         denominators: "A denominator is a whole number from 1 to 100.",
     },
 };

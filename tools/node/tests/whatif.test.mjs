@@ -101,6 +101,7 @@ test("a market that session refuses has what it says in place of states", {skip}
 /** A program whose surplus is the number of the trades that are admitted, for edits of trades and of firms without any. */
 function counting(asked) {
     return async (words, document) => {
+        if (words[0] === "firms") return JSON.stringify({answer: "firms", firms: []});
         const {trades, edits} = JSON.parse(document), admitted = new Set();
         asked.push(edits.length);
         const states = edits.map(([does, name]) => {
