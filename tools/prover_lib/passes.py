@@ -48,12 +48,12 @@ def try_definitions(crate: Crate, room: pathlib.Path) -> dict[str, Tried]:
 
 
 def tried_anew(crate: Crate, record: Record) -> list[str]:
-    """Tries the edits of bodies from nothing, in the passes of the record, and says which of them come to something else."""
+    """Tries the edits of bodies that the record has from nothing, in its passes, and says which of them come to something else."""
     lost = []
     with tempfile.TemporaryDirectory(prefix=f"refused-{crate.name}-kept-") as room:
         edits = edits_of_bodies(crate)
         for number in sorted({it.number for it in record.edits.values() if it.number}):
-            now = [edit for edit in edits if record.edits[edit.name].number == number]
+            now = [edit for edit in edits if edit.name in record.edits and record.edits[edit.name].number == number]
             refused = try_pass(crate, now, ["--incremental", room])
             lost += [f"{crate.name}/{it.name}: {told(record.edits[it.name], refused.get(it.name))}" for it in now
                      if not record.edits[it.name].is_met(refused.get(it.name))]
