@@ -58,7 +58,7 @@ nested_by sets k laminar i inner outer less at_inner at_outer t u firm in_inner 
 pub steps_of : (firms : ℕ) (set : CountSet) → IsCountSet firms set → HasSteps set.back set.steps.items
 steps_of firms set is = record {
   back_within = is.around;
-  few_units = is.few;
+  few_units = let few = is.few in omega (arith, few);
   falling = is.concave;
   slight = λ k step at.
       let small = is.small k step at in

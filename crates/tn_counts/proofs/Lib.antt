@@ -12,3 +12,4 @@ pub mod PriceLemmas
 pub mod PlainLemmas
 pub mod SurplusLemmas
 pub mod CheckLemmas
+pub mod SizeLemmas

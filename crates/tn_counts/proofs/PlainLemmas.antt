@@ -25,14 +25,14 @@ use Rattle.tn_counts.proofs.TreeLemmas.{IsAround, around_parts, first_within}
 -- ---- each link by its place
 
 -- what holds of each kind of link at its place holds of all
-record AreAll (market : UnitMarket) (pins : List Pin) (P : ℕ → LinkShape → Type 0) : Type 0 where
-  sets : (i : ℕ) (set : CountSet) → slice_get market.sets.items i ≡ Some set → P i (set_shape market i set)
-  roots : (f : ℕ) → f < market.firms → P (root_node market f) (root_shape market f)
-  sellers : (t : ℕ) → t < length market.trades.items → P (seller_place market t) (seller_shape market t)
-  buyers : (t : ℕ) → t < length market.trades.items → P (buyer_place market t) (buyer_shape market t)
-  pinned : (k : ℕ) (pin : Pin) → slice_get pins k ≡ Some pin → P (pin_place market k) (pin_shape market pin)
+pub record AreAll (market : UnitMarket) (pins : List Pin) (P : ℕ → LinkShape → Type 0) : Type 0 where
+  pub sets : (i : ℕ) (set : CountSet) → slice_get market.sets.items i ≡ Some set → P i (set_shape market i set)
+  pub roots : (f : ℕ) → f < market.firms → P (root_node market f) (root_shape market f)
+  pub sellers : (t : ℕ) → t < length market.trades.items → P (seller_place market t) (seller_shape market t)
+  pub buyers : (t : ℕ) → t < length market.trades.items → P (buyer_place market t) (buyer_shape market t)
+  pub pinned : (k : ℕ) (pin : Pin) → slice_get pins k ≡ Some pin → P (pin_place market k) (pin_shape market pin)
 
-by_place : (market : UnitMarket) (pins : List Pin) (links : List Link) (P : ℕ → LinkShape → Type 0)
+pub by_place : (market : UnitMarket) (pins : List Pin) (links : List Link) (P : ℕ → LinkShape → Type 0)
     → AreLinksOf market pins links → AreAll market pins P → (j : ℕ) (link : Link) → slice_get links j ≡ Some link
     → P j (shape_of link)
 by_place market pins links P of all j link at = elim (cases_lt j m) [
@@ -162,7 +162,7 @@ shapes_are market pins is are = record {
         head_inside = omega (arith, high);
         apart = λ e. omega (arith, e, low);
         back_within = own.around;
-        few_units = own.few;
+        few_units = let few = own.few in omega (arith, few);
         falling = own.concave;
         slight = λ k step there. let small = own.small k step there in record {
           low = let least = small.low in omega (arith, ints, least);

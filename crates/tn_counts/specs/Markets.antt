@@ -2,10 +2,10 @@
 use Rattle.std.specs.Prelude.{◌≡◌, ◌≢◌, ℕ, ◌<◌, ◌≤◌, List, length, sum_by, true, slice_get, Some}
 use Rattle.tn_base.specs.Arcs.{IsAtMost}
 use Rattle.tn_links.specs.Links.{AreFalling, room}
-use Rattle.tn_links.specs.Widths.{most_each, most_units}
+use Rattle.tn_links.specs.Widths.{most_each}
 use Rattle.tn_links.specs.declared.link.Step.{Step}
 use Rattle.tn_counts.specs.Laminar.{holds}
-use Rattle.tn_counts.specs.Widths.{most_count_sets, most_market_units, most_unit_amount, most_unit_firms, most_unit_trades}
+use Rattle.tn_counts.specs.Widths.{most_count_sets, most_market_units, most_set_units, most_unit_amount, most_unit_firms, most_unit_trades}
 use Rattle.tn_counts.specs.declared.market.Pin.{Pin}
 use Rattle.tn_counts.specs.declared.market.UnitMarket.{UnitMarket}
 use Rattle.tn_counts.specs.declared.set.CountSet.{CountSet}
@@ -39,7 +39,7 @@ HaveSmallSteps steps = (k : ℕ) (step : Step) → slice_get steps k ≡ Some st
 pub record IsCountSet (firms : ℕ) (set : CountSet) : Type 0 where
   pub known : set.firm < firms
   pub around : set.back ≤ room set.steps.items
-  pub few : room set.steps.items ≤ most_units
+  pub few : room set.steps.items ≤ most_set_units
   pub concave : AreFalling set.steps.items
   pub small : HaveSmallSteps set.steps.items
   pub constant : IsAtMost set.constant most_unit_amount

@@ -15,9 +15,21 @@ most_count_sets = 4096
 abbrev pub most_market_units : ℕ
 most_market_units = 2 ^ 20
 
+-- the steps of a set have at most so many units: no net count leaves them by more than all units, either way
+abbrev pub most_set_units : ℕ
+most_set_units = 2 ^ 21
+
 -- an amount or what a step adds is at most so much in size, for a unit
 abbrev pub most_unit_amount : ℕ
 most_unit_amount = 2 * 10 ^ 7
+
+-- a price of an equilibrium is at most so much in size
+abbrev pub most_unit_price : ℕ
+most_unit_price = 2 * 10 ^ 11
+
+-- a surplus is at most so much in size
+abbrev pub most_unit_surplus : ℕ
+most_unit_surplus = 10 ^ 18
 
 -- more units than flow over any link, both ways
 abbrev pub unbounded : ℕ

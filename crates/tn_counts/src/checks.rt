@@ -10,7 +10,7 @@ ghost use Rattle.tn_counts.specs.Widths.{most_count_sets, most_market_units, mos
 use crate::market::UnitMarket;
 use crate::set::CountSet;
 use crate::trade::{UnitAmounts, UnitTrade};
-use tn_links::{Step, has_steps};
+use tn_links::{Step, has_steps, room};
 
 /// There are at most so many firms.
 const MOST_FIRMS: u32 = 1_024;
@@ -23,6 +23,9 @@ const MOST_SETS: usize = 4_096;
 
 /// All trades have at most so many units.
 const MOST_UNITS: u32 = 1_048_576;
+
+/// The steps of a set have at most so many units.
+const MOST_SET_UNITS: u32 = 2_097_152;
 
 /// An amount, what a step adds and a constant are at most so much, in size.
 const MOST_AMOUNT: i64 = 20_000_000;
@@ -119,6 +122,9 @@ fn is_count_set(set: &CountSet, firms: u32) -> bool
     ensures no { result ≡ false → IsCountSet firms set.now → ⊥ }
 {
     if firms <= set.firm || !has_steps(set.back, &set.steps) {
+        return false;
+    }
+    if MOST_SET_UNITS < room(&set.steps) {
         return false;
     }
     if !have_small_steps(&set.steps) {

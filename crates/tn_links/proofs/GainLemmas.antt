@@ -3,36 +3,53 @@ use Rattle.std.proofs.Common.{◌≡◌, ℕ, zero, suc, ◌+◌, ◌-◌, ◌*�
 use Rattle.std.specs.Prelude.{◌<ℤ◌, slice_get}
 use Rattle.std.specs.Int.RustNames.{unsigned_abs}
 use Rattle.std.proofs.Math.IntN.{negsuc}
+use Rattle.std.proofs.Math.Nat.{mul-le-mul_right}
 use Rattle.std.proofs.lemmas.Int.{ints}
 use Rattle.std.proofs.lemmas.Bool.{cases_lt}
 use Rattle.std.proofs.lemmas.Option.{none-some, same_Some}
+use Rattle.tn_base.specs.Arcs.{IsAtMost}
 use Rattle.tn_links.specs.declared.link.Link.{Link}
 use Rattle.tn_links.specs.Flows.{AreWithin, IsKeptFlow, gain, total_gain}
-use Rattle.tn_links.specs.Links.{ArePlain, IsLink, rise, room}
-use Rattle.tn_links.specs.RiseLemmas.{rise_slight}
+use Rattle.tn_links.specs.Links.{AddAtMost, ArePlain, IsLink, rise, room}
+use Rattle.tn_links.specs.RiseLemmas.{rise_at_most}
 use Rattle.tn_links.specs.Widths.{most_each, most_units}
 
 -- what the gain of a flow lacks to what no links of that number gain
 abbrev pub gain_left : List Link → List ℕ → ℕ
 gain_left links levels = unsigned_abs (pos (length links * (most_units * most_each)) -ℤ total_gain links levels)
 
-gain_small : (nodes : ℕ) (link : Link) (level : ℕ) → IsLink nodes link → level ≤ room link.steps.items
-    → gain link level ≤ℤ pos (most_units * most_each)
-gain_small nodes link level is within = elim (cases_lt level link.back) [
+-- a flow gains no more than so many units at the limit
+pub gain_at_most : (limit units : ℕ) (link : Link) (level : ℕ) → AddAtMost limit link.steps.items
+    → link.back ≤ units → level ≤ units → IsAtMost (gain link level) (units * limit)
+gain_at_most limit units link level small back within = elim (cases_lt level link.back) [
   | inl below ↦
-      let small = rise_slight link.steps.items level (link.back - level) is.steps.slight in
+      let added = rise_at_most limit link.steps.items level (link.back - level) small in
       let same : rise link.steps.items (level + (link.back - level)) ≡ rise link.steps.items link.back =
       ap (rise link.steps.items) (omega (arith, below)) in
-      let back = is.steps.back_within in
-      let few = is.steps.few_units in
-      omega (arith, ints, small.low, same, back, few)
+      let more : (link.back - level) * limit ≤ units * limit = mul-le-mul_right limit (omega (arith, back)) in
+      record {
+        low = omega (arith, ints, added.high, same, more);
+        high = omega (arith, ints, added.low, same, more);
+      }
   | inr above ↦
-      let small = rise_slight link.steps.items link.back (level - link.back) is.steps.slight in
+      let added = rise_at_most limit link.steps.items link.back (level - link.back) small in
       let same : rise link.steps.items (link.back + (level - link.back)) ≡ rise link.steps.items level =
       ap (rise link.steps.items) (omega (arith, above)) in
-      let few = is.steps.few_units in
-      omega (arith, ints, small.high, same, within, few)
+      let more : (level - link.back) * limit ≤ units * limit = mul-le-mul_right limit (omega (arith, within)) in
+      record {
+        low = omega (arith, ints, added.low, same, more);
+        high = omega (arith, ints, added.high, same, more);
+      }
 ]
+
+gain_small : (nodes : ℕ) (link : Link) (level : ℕ) → IsLink nodes link → level ≤ room link.steps.items
+    → gain link level ≤ℤ pos (most_units * most_each)
+gain_small nodes link level is within =
+    let back = is.steps.back_within in
+    let few = is.steps.few_units in
+    let small = gain_at_most most_each most_units link level is.steps.slight (omega (arith, back, few))
+    (omega (arith, within, few)) in
+    omega (arith, ints, small.high)
 
 total_small : (nodes : ℕ) (links : List Link) (levels : List ℕ)
     → ((j : ℕ) (link : Link) → slice_get links j ≡ Some link → IsLink nodes link) → AreWithin links levels

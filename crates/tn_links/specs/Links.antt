@@ -21,9 +21,13 @@ abbrev pub AreFalling : List Step → Type 0
 AreFalling steps = (i k : ℕ) (a b : Step) → i < k → slice_get steps i ≡ Some a → slice_get steps k ≡ Some b
     → b.each ≤ℤ a.each
 
+-- no unit adds more than a limit, in size
+abbrev pub AddAtMost : ℕ → List Step → Type 0
+AddAtMost limit steps = (i : ℕ) (step : Step) → slice_get steps i ≡ Some step → IsAtMost step.each limit
+
 -- no unit adds much
 abbrev pub AreSlight : List Step → Type 0
-AreSlight steps = (i : ℕ) (step : Step) → slice_get steps i ≡ Some step → IsAtMost step.each most_each
+AreSlight steps = AddAtMost most_each steps
 
 -- the steps make a concave gain, with room for the level of no flow
 pub record HasSteps (back : ℕ) (steps : List Step) : Type 0 where

@@ -1,5 +1,5 @@
 -- What the graph of a flow with lots needs to be searched.
-use Rattle.std.proofs.Common.{◌≡◌, ℕ, zero, suc, ◌+◌, ◌-◌, ◌<◌, ◌≤◌, ◌⊎◌, refl, sym, ap, ◌∙◌, subst, arith, inl, inr, List, [], ◌∷◌, length, ℤ, ◌-ℤ◌, Some, None, Bool, true, false, ◌==◌, if◌then◌else◌, nat_le}
+use Rattle.std.proofs.Common.{◌≡◌, ℕ, zero, suc, ◌+◌, ◌-◌, ◌*◌, ◌<◌, ◌≤◌, ◌⊎◌, refl, sym, ap, ◌∙◌, subst, arith, inl, inr, List, [], ◌∷◌, length, ℤ, ◌-ℤ◌, Some, None, Bool, true, false, ◌==◌, if◌then◌else◌, nat_le}
 use Rattle.std.specs.Prelude.{slice_get, get_or, ◌&&◌}
 use Rattle.std.proofs.lemmas.Int.{ints}
 use Rattle.std.proofs.lemmas.Bool.{and_parts, and_from, or_cases, or_left, or_right, eqb-true, eqb-false, eq-eqb, leb-true}
@@ -8,11 +8,11 @@ use Rattle.tn_base.specs.Arcs.{AreBetweenNodes, AreSmall, IsAtMost, ListsPredece
 use Rattle.tn_base.specs.Widths.{most_cost}
 use Rattle.tn_links.specs.declared.link.Link.{Link}
 use Rattle.tn_links.specs.declared.links.Neighbour.{Neighbour}
-use Rattle.tn_links.specs.Links.{ArePlain, AreSingle, AreSlight, joins, rise, room}
+use Rattle.tn_links.specs.Links.{AddAtMost, ArePlain, AreSingle, joins, rise, room}
 use Rattle.tn_links.specs.Lots.{less_cost, link_arc, lot_cost, more_cost}
 use Rattle.tn_links.specs.Near.{near_from, no_neighbour}
-use Rattle.tn_links.specs.RiseLemmas.{rise_slight}
-use Rattle.tn_links.specs.Widths.{most_lot}
+use Rattle.tn_links.specs.RiseLemmas.{rise_at_most}
+use Rattle.tn_links.specs.Widths.{most_each, most_lot}
 
 -- the ends of a link, in either order
 abbrev pub HasEnds : Link → ℕ → ℕ → Type 0
@@ -91,35 +91,30 @@ pub some_only : (b : Bool) (x y : ℤ) → (if b then Some x else None) ≡ Some
 some_only true x y e = (refl, same_Some x y e)
 some_only false x y e = absurd (none-some y e)
 
-lot_small : (link : Link) (level lot u : ℕ) (cost : ℤ) → AreSlight link.steps.items → lot ≤ most_lot
-    → lot_cost link level lot u ≡ Some cost → IsAtMost cost most_cost
-lot_small link level lot u cost slight few e = by (link.tail == u) e
+-- a lot costs no more than its units at the limit
+pub lot_at_most : (limit : ℕ) (link : Link) (level lot u : ℕ) (cost : ℤ) → AddAtMost limit link.steps.items
+    → lot_cost link level lot u ≡ Some cost → IsAtMost cost (lot * limit)
+lot_at_most limit link level lot u cost small e = by (link.tail == u) e
   where
-    more : more_cost link level lot ≡ Some cost → IsAtMost cost most_cost
+    more : more_cost link level lot ≡ Some cost → IsAtMost cost (lot * limit)
     more q =
         let is = some_only (nat_le (level + lot) (room link.steps.items))
         (rise link.steps.items level -ℤ rise link.steps.items (level + lot)) cost q in
-        let small = rise_slight link.steps.items level lot slight in
-        record {
-          low = omega (arith, ints, small.high, is.1, few);
-          high = omega (arith, ints, small.low, is.1, few);
-        }
+        let added = rise_at_most limit link.steps.items level lot small in
+        record { low = omega (arith, ints, added.high, is.1); high = omega (arith, ints, added.low, is.1) }
 
-    less : less_cost link level lot ≡ Some cost → IsAtMost cost most_cost
+    less : less_cost link level lot ≡ Some cost → IsAtMost cost (lot * limit)
     less q =
         let is = some_only (nat_le lot level)
         (rise link.steps.items level -ℤ rise link.steps.items (level - lot)) cost q in
         let enough : lot ≤ level = leb-true lot level is.0 in
-        let small = rise_slight link.steps.items (level - lot) lot slight in
+        let added = rise_at_most limit link.steps.items (level - lot) lot small in
         let same : rise link.steps.items (level - lot + lot) ≡ rise link.steps.items level =
         ap (rise link.steps.items) (omega (arith, enough)) in
-        record {
-          low = omega (arith, ints, small.low, is.1, same, few);
-          high = omega (arith, ints, small.high, is.1, same, few);
-        }
+        record { low = omega (arith, ints, added.low, is.1, same); high = omega (arith, ints, added.high, is.1, same) }
 
     by : (t : Bool) → (if t then more_cost link level lot else less_cost link level lot) ≡ Some cost
-        → IsAtMost cost most_cost
+        → IsAtMost cost (lot * limit)
     by true q = more q
     by false q = less q
 
@@ -127,7 +122,9 @@ pub small-link_arc : (nodes : ℕ) (links : List Link) (levels : List ℕ) (lot 
     → lot ≤ most_lot → AreSmall (link_arc links levels lot) most_cost
 small-link_arc nodes links levels lot plain few a b cost e =
     let arc = arc_of links levels lot a b cost e in
-    lot_small arc.link arc.level lot a cost (plain.each arc.place arc.link arc.link_is).steps.slight few arc.cost_is
+    let small = lot_at_most most_each arc.link arc.level lot a cost
+    (plain.each arc.place arc.link arc.link_is).steps.slight arc.cost_is in
+    record { low = omega (arith, ints, small.low, few); high = omega (arith, ints, small.high, few) }
 
 -- what a node's list has at a place
 pub record IsNear (links : List Link) (v u : ℕ) : Type 0 where

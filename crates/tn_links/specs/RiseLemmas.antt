@@ -8,7 +8,7 @@ use Rattle.std.proofs.lemmas.Option.{slice_get-get_or}
 use Rattle.std.proofs.Math.IntN.{*ℤ_comm, *ℤ-zero, suc_ℤ-*ℤ}
 use Rattle.tn_base.specs.Arcs.{IsAtMost}
 use Rattle.tn_links.specs.declared.link.Step.{Step}
-use Rattle.tn_links.specs.Links.{AreSlight, rise}
+use Rattle.tn_links.specs.Links.{AddAtMost, AreSlight, rise}
 use Rattle.tn_links.specs.Widths.{most_each}
 
 -- one more in the second factor
@@ -64,31 +64,31 @@ rise-suc (step ∷ steps) n = elim (cases_lt n step.units) [
       omega (arith, ints, first, rest, rise-suc steps (n - step.units), slope_past step steps n past)
 ]
 
-pub slight_tail : (step : Step) (steps : List Step) → AreSlight (step ∷ steps) → AreSlight steps
-slight_tail step steps slight i one is = slight (suc i) one is
+tail_at_most : (limit : ℕ) (step : Step) (steps : List Step) → AddAtMost limit (step ∷ steps) → AddAtMost limit steps
+tail_at_most limit step steps small i one is = small (suc i) one is
 
-pub slope_slight : (steps : List Step) (n : ℕ) → AreSlight steps → IsAtMost (slope steps n) most_each
-slope_slight [] n slight = record { low = omega (arith, ints); high = omega (arith, ints) }
-slope_slight (step ∷ steps) n slight = elim (cases_lt n step.units) [
-  | inl below ↦ subst (λ (z : ℤ). IsAtMost z most_each) (sym (slope_in step steps n below)) (slight 0 step refl)
-  | inr past ↦ subst (λ (z : ℤ). IsAtMost z most_each) (sym (slope_past step steps n past))
-      (slope_slight steps (n - step.units) (slight_tail step steps slight))
+slope_at_most : (limit : ℕ) (steps : List Step) (n : ℕ) → AddAtMost limit steps → IsAtMost (slope steps n) limit
+slope_at_most limit [] n small = record { low = omega (arith, ints); high = omega (arith, ints) }
+slope_at_most limit (step ∷ steps) n small = elim (cases_lt n step.units) [
+  | inl below ↦ subst (λ (z : ℤ). IsAtMost z limit) (sym (slope_in step steps n below)) (small 0 step refl)
+  | inr past ↦ subst (λ (z : ℤ). IsAtMost z limit) (sym (slope_past step steps n past))
+      (slope_at_most limit steps (n - step.units) (tail_at_most limit step steps small))
 ]
 
--- so many units more add little
-pub rise_slight : (steps : List Step) (n d : ℕ) → AreSlight steps
-    → IsAtMost (rise steps (n + d) -ℤ rise steps n) (d * most_each)
-rise_slight steps n zero slight =
+-- so many units more add no more than so often the limit
+pub rise_at_most : (limit : ℕ) (steps : List Step) (n d : ℕ) → AddAtMost limit steps
+    → IsAtMost (rise steps (n + d) -ℤ rise steps n) (d * limit)
+rise_at_most limit steps n zero small =
     let same : rise steps (n + 0) ≡ rise steps n = ap (rise steps) (omega arith) in
     record { low = omega (arith, ints, same); high = omega (arith, ints, same) }
-rise_slight steps n (suc d) slight =
-    let before = rise_slight steps n d slight in
+rise_at_most limit steps n (suc d) small =
+    let before = rise_at_most limit steps n d small in
     let one = rise-suc steps (n + d) in
     let same : rise steps (n + suc d) ≡ rise steps (n + d + 1) = ap (rise steps) (omega arith) in
-    let small = slope_slight steps (n + d) slight in
+    let last = slope_at_most limit steps (n + d) small in
     record {
-      low = omega (arith, ints, before.low, one, same, small.low);
-      high = omega (arith, ints, before.high, one, same, small.high);
+      low = omega (arith, ints, before.low, one, same, last.low);
+      high = omega (arith, ints, before.high, one, same, last.high);
     }
 
 -- the units of one step more

@@ -25,7 +25,7 @@ pub struct Link {
 }
 
 /// How many units the steps have, at most 2^24.
-pub(crate) fn room(steps: &[Step]) -> u32
+pub fn room(steps: &[Step]) -> u32
     requires { room steps.now ≤ most_units }
     ensures { result ≡ room steps.now }
 {

@@ -1,8 +1,9 @@
 -- What a settled flow over the links of a market says in lists of counts and of prices.
-use Rattle.std.proofs.Common.{◌≡◌, ℕ, ◌+◌, ◌<◌, ◌≤◌, ◌==◌, if◌then◌else◌, List, [], length, map, get_or, Some, sym, ap, ap₂, ◌∙◌, subst, arith, ℤ, pos, ◌+ℤ◌}
-use Rattle.std.specs.Prelude.{slice_get}
+use Rattle.std.proofs.Common.{◌≡◌, ℕ, ◌+◌, ◌*◌, ◌<◌, ◌≤◌, ◌==◌, if◌then◌else◌, List, [], length, map, get_or, Some, refl, sym, ap, ap₂, ◌∙◌, subst, arith, ℤ, pos, ◌+ℤ◌, ◌≤ℤ◌}
+use Rattle.std.specs.Prelude.{slice_get, All, neg_ℤ}
 use Rattle.std.specs.List.{range_with_len}
 use Rattle.std.proofs.lemmas.Int.{ints}
+use Rattle.std.proofs.lemmas.List.Elements.{All-from_get_or}
 use Rattle.std.proofs.lemmas.List.FromFn.{get_or-map-range_with_len, length-map-range_with_len}
 use Rattle.std.proofs.lemmas.Option.{same_Some, slice_get_within}
 use Rattle.tn_base.specs.Arcs.{IsAtMost}
@@ -17,11 +18,13 @@ use Rattle.tn_links.specs.Widths.{most_each}
 use Rattle.tn_counts.specs.Counts.{IsBestCount, IsEquilibriumByCounts, count_surplus, count_utility, trade_at}
 use Rattle.tn_counts.specs.Laminar.{constants, firm_of, firms_of}
 use Rattle.tn_counts.specs.Markets.{ArePins, IsUnitMarket}
-use Rattle.tn_counts.specs.Tree.{AreLinksOf, counts_at, price_by, sold_at, trade_node}
+use Rattle.tn_counts.specs.Tree.{AreLinksOf, counts_at, null_node, price_by, sold_at, trade_node}
+use Rattle.tn_counts.specs.Widths.{most_set_units, most_unit_amount, most_unit_price, most_unit_surplus}
 use Rattle.tn_counts.specs.declared.market.Pin.{Pin}
 use Rattle.tn_counts.specs.declared.market.UnitMarket.{UnitMarket}
 use Rattle.tn_counts.proofs.PlainLemmas.{links_plain}
 use Rattle.tn_counts.proofs.PriceLemmas.{prices_are}
+use Rattle.tn_counts.proofs.SizeLemmas.{market_gain_small, unit_arcs_small}
 use Rattle.tn_counts.proofs.SurplusLemmas.{best_same, equilibrium_same, flows_counts, labels_equilibrium, prices_same, surplus_same}
 use Rattle.tn_tree.proofs.BuildLemmas.{range_get}
 use Rattle.tn_tree.specs.Lists.{count_in, own_counts, pin_of, price_in}
@@ -53,6 +56,46 @@ labels_small size nodes links levels labels plain few are v below =
     let high = are.high v inside in
     let low = are.low 1000000000000000000 v (small-link_arc size links levels 1 plain (omega arith)) inside in
     record { low = omega (arith, ints, low, few); high = omega (arith, ints, high) }
+
+-- what a label and the difference of two are at most, where a unit costs little
+pub prices_small : (market : UnitMarket) (links : List Link) (levels : List ℕ) (labels : List ℤ) (nodes : ℕ)
+    (prices : List ℤ) → IsUnitMarket market → AreLinksOf market [] links
+    → AreLabels nodes (link_arc links levels 1) labels → nodes ≡ null_node market + 1
+    → prices ≡ map (price_by market (label_in labels)) (range_with_len 0 (length market.trades.items))
+    → All (λ price. IsAtMost price most_unit_price) prices
+prices_small market links levels labels nodes prices is of are sized priced =
+    All-from_get_or (λ price. IsAtMost price most_unit_price) prices (pos 0) (λ t inside.
+    let count = sized_by (price_by market (label_in labels)) prices (length market.trades.items)
+    (length market.trades.items) priced refl in
+    let below : t < length market.trades.items = omega (arith, inside, count) in
+    subst (λ price. IsAtMost price most_unit_price)
+    (read_at (price_by market (label_in labels)) prices (length market.trades.items) t (pos 0) priced below)
+    (small t below))
+  where
+    at : (v : ℕ) → v < nodes → (neg_ℤ (pos 184320000000) ≤ℤ label_in labels v) × (label_in labels v ≤ℤ pos 0)
+    at v inside =
+        let high = are.high v inside in
+        let low = are.low most_unit_amount v (unit_arcs_small market links levels is of) inside in
+        let sets = is.few_sets in
+        let firms = is.few_firms in
+        let trades = is.few_trades in
+        (omega (arith, ints, low, sized, sets, firms, trades), high)
+
+    small : (t : ℕ) → t < length market.trades.items → IsAtMost (price_by market (label_in labels) t) most_unit_price
+    small t below =
+        let one = at (trade_node market t) (omega (arith, sized, below)) in
+        let null = at (null_node market) (omega (arith, sized)) in
+        record {
+          low = omega (arith, ints, one.0, null.1);
+          high = omega (arith, ints, one.1, null.0);
+        }
+
+pub surplus_small : (surplus gained added : ℤ) → IsAtMost gained (13312 * (most_set_units * most_unit_amount))
+    → IsAtMost added (4096 * most_unit_amount) → surplus ≡ gained +ℤ added → IsAtMost surplus most_unit_surplus
+surplus_small surplus gained added most more is = record {
+  low = omega (arith, ints, most.low, more.low, is);
+  high = omega (arith, ints, most.high, more.high, is);
+}
 
 pub equilibrium_read : (market : UnitMarket) (links : List Link) (levels : List ℕ) (labels : List ℤ) (nodes : ℕ)
     (counts : List ℕ) (prices : List ℤ) (n place : ℕ) → IsUnitMarket market → AreLinksOf market [] links

@@ -1,6 +1,6 @@
 //! Equilibria of markets whose trades have units.
 
-ghost use Rattle.std.specs.Prelude.{◌≡◌, ℕ, ◌+◌, ◌*◌, ◌^◌, ◌<◌, ◌≤◌, length, map, pos, suc, get_or, slice_get, IfOk, Some};
+ghost use Rattle.std.specs.Prelude.{◌≡◌, ℕ, ◌+◌, ◌*◌, ◌^◌, ◌<◌, ◌≤◌, length, map, pos, suc, get_or, slice_get, All, IfOk, Some};
 ghost use Rattle.std.specs.List.{range_with_len};
 ghost use Rattle.tn_base.specs.Arcs.{IsAtMost};
 ghost use Rattle.tn_counts.specs.declared.set.CountSet.{CountSet};
@@ -8,7 +8,7 @@ ghost use Rattle.tn_counts.specs.Counts.{IsEquilibriumByCounts, count_surplus};
 ghost use Rattle.tn_counts.specs.Laminar.{constants, firms_of};
 ghost use Rattle.tn_counts.specs.Markets.{IsUnitMarket};
 ghost use Rattle.tn_counts.specs.Tree.{null_node, price_by};
-ghost use Rattle.tn_counts.specs.Widths.{most_count_sets, most_unit_amount};
+ghost use Rattle.tn_counts.specs.Widths.{most_count_sets, most_unit_amount, most_unit_price, most_unit_surplus};
 ghost use Rattle.tn_cycle.specs.Answers.{label_in};
 ghost use Rattle.tn_cycle.specs.Widths.{most_read};
 ghost use Rattle.tn_tree.specs.Lists.{count_in, price_in};
@@ -92,6 +92,9 @@ pub fn solve_market(alloc: Global, market: &UnitMarket) -> Result<Solved, OutOfM
         ≡ Some solved.surplus) }
     ensures counts { IfOk result (λ solved. length solved.counts.items ≡ length market.now.trades.items) }
     ensures prices { IfOk result (λ solved. length solved.prices.items ≡ length market.now.trades.items) }
+    // So prices are those of an arrangement, and the surplus is a number of a claim.
+    ensures small_prices { IfOk result (λ solved. All (λ price. IsAtMost price most_unit_price) solved.prices.items) }
+    ensures small_surplus { IfOk result (λ solved. IsAtMost solved.surplus most_unit_surplus) }
 {
     let trades = market.trades.len() as u32;
     let nodes = trade_node(market, trades) + 1;

@@ -1,9 +1,9 @@
 -- What shows the clauses of `is_count_set` of `src/checks.rt`.
-use Rattle.std.proofs.Common.{List, sym, subst, arith}
+use Rattle.std.proofs.Common.{List, sym, ap, subst, arith}
 use Rattle.std.proofs.lemmas.Int.{ints, to_z-of_z}
 use mir.Syntax.{w64}
 use mir.Val.{SFits}
-use Rattle.tn_links.specs.Links.{HasSteps}
+use Rattle.tn_links.specs.Links.{HasSteps, room}
 use Rattle.tn_links.specs.declared.link.Step.{Step}
 use Rattle.tn_counts.specs.Markets.{HaveSmallSteps}
 use Rattle.tn_counts.proofs.CheckLemmas.{steps_of}
@@ -24,7 +24,7 @@ returns-then-firms-set-clause-no c is set = elim c.then-firms-set.branch [
 pub returns-then-not-have_small_steps-clause-no : goal.returns-then-not-have_small_steps-clause-no
 returns-then-not-have_small_steps-clause-no c is set =
     c.have_small_steps.ensures.no c.if-not-have_small_steps.true
-    (subst HaveSmallSteps (sym c.deref-2.ensures.value) set.small)
+    (subst HaveSmallSteps (sym c.deref-3.ensures.value) set.small)
 
 pub returns-clause-yes : goal.returns-clause-yes
 returns-clause-yes c is =
@@ -36,8 +36,9 @@ returns-clause-yes c is =
     record {
       known = omega (arith, c.if-firms-set.false);
       around = steps.back_within;
-      few = steps.few_units;
+      few = let units = c.room.ensures in let same = ap room c.deref-2.ensures.value in
+          omega (arith, units, same, c.if-room-gt-MOST_SET_UNITS.false);
       concave = steps.falling;
-      small = subst HaveSmallSteps c.deref-2.ensures.value (c.have_small_steps.ensures.yes c.if-not-have_small_steps.false);
+      small = subst HaveSmallSteps c.deref-3.ensures.value (c.have_small_steps.ensures.yes c.if-not-have_small_steps.false);
       constant = constant;
     }

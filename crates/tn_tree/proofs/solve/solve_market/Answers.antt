@@ -9,7 +9,8 @@ use Rattle.tn_links.specs.Flows.{IsKeptFlow, total_gain}
 use Rattle.tn_counts.specs.Laminar.{constants}
 use Rattle.tn_counts.specs.Tree.{price_by}
 use Rattle.tn_cycle.specs.Answers.{label_in}
-use Rattle.tn_tree.proofs.SolveLemmas.{equilibrium_read, labels_small, sized_by, surplus_read}
+use Rattle.tn_counts.proofs.SizeLemmas.{market_gain_small}
+use Rattle.tn_tree.proofs.SolveLemmas.{equilibrium_read, labels_small, prices_small, sized_by, surplus_read, surplus_small}
 use Rattle.tn_tree.proofs.solve.solve_market.Goals as goal
 
 pub gain-requires : goal.gain-requires
@@ -71,3 +72,28 @@ pub returns-clause-prices : goal.returns-clause-prices
 returns-clause-prices c =
     sized_by (price_by c.args.market.now (label_in c.settled.new.finder.labels)) c.in_ok-prices.prices.items
     (length c.args.market.now.trades.items) (length c.args.market.now.trades.items) c.in_ok-prices.ensures refl
+
+pub returns-clause-small_prices : goal.returns-clause-small_prices
+returns-clause-small_prices c =
+    let sized = c.args.market.now.trades.ok.0 in
+    let count = c.len-trades.ensures in
+    let node = c.trade_node-nodes.ensures in
+    prices_small c.args.market.now c.in_ok-links.links.links.items c.in_ok-levels.levels.items
+    c.settled.new.finder.labels (c.trade_node-nodes.result + 1) c.in_ok-prices.prices.items c.requires
+    c.in_ok-links.ensures.links c.in_ok-levels.ensures.labelled (omega (arith, sized, count, node)) c.in_ok-prices.ensures
+
+pub returns-clause-small_surplus : goal.returns-clause-small_surplus
+returns-clause-small_surplus c =
+    let gain = c.gain.ensures in
+    let added = c.constants.ensures in
+    let gains = ap (total_gain c.in_ok-links.links.links.items) c.deref.ensures.value in
+    let fit_gain : SFits w128 c.gain.result = omega (arith, ints, gain.small.low, gain.small.high) in
+    let fit_constants : SFits w128 c.constants.result = omega (arith, ints, added.small.low, added.small.high) in
+    let fit : SFits w128 (c.gain.result +ℤ c.constants.result) =
+    omega (arith, ints, gain.small.low, gain.small.high, added.small.low, added.small.high) in
+    let small = market_gain_small c.args.market.now c.in_ok-links.links.links.items c.in_ok-levels.levels.items c.requires
+    c.in_ok-links.ensures.links c.in_ok-levels.ensures.kept in
+    simp to_z-of_z (surplus_small (c.gain.result +ℤ c.constants.result) c.gain.result c.constants.result (record {
+      low = omega (arith, ints, small.low, gains, gain.gain);
+      high = omega (arith, ints, small.high, gains, gain.gain);
+    }) added.small refl)
