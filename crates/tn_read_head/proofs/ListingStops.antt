@@ -51,10 +51,10 @@ pub plain_stop : (names : NameLists) → AreNames names → (f : Fault) → IsPl
 plain_stop names are f plain = told_stop names are f (told_plain names.trades f plain)
 
 -- the names of the firms so far
-abbrev AreFirmNames : NameLists → Type 0
+abbrev pub AreFirmNames : NameLists → Type 0
 AreFirmNames names = IsListWhileFew names.firms × (names.trades ≡ [])
 
-one_firm_name_leads : (names : NameLists) (firm : Data) → AreFirmNames names
+pub one_firm_name_leads : (names : NameLists) (firm : Data) → AreFirmNames names
     → Leads (λ next. AreFirmNames next × (length next.firms ≡ length names.firms + 1)) (one_firm_name names firm)
 one_firm_name_leads names firm kept =
     leads_beside _ names (firm_name names firm)
@@ -64,14 +64,14 @@ one_firm_name_leads names firm kept =
       more_count names.firms next.firms more.0,
     )) (firm_name_leads names firm))
 
-few_names : (names : NameLists) → AreFirmNames names → length names.firms ≤ most_firms → AreNames names
+pub few_names : (names : NameLists) → AreFirmNames names → length names.firms ≤ most_firms → AreNames names
 few_names names kept few = record {
   firms = kept.0 (omega (arith, few));
   trades =
       subst IsNameList (sym kept.1) (none_named (omega arith));
 }
 
-one_firm_name_stops : (names : NameLists) (firm : Data) → AreFirmNames names → length names.firms + 1 ≤ most_firms
+pub one_firm_name_stops : (names : NameLists) (firm : Data) → AreFirmNames names → length names.firms + 1 ≤ most_firms
     → Stops IsStop (one_firm_name names firm)
 one_firm_name_stops names firm kept few =
     stops_beside IsStop IsPlain names (firm_name names firm)

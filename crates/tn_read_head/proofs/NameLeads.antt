@@ -36,7 +36,7 @@ pub record IsNew (names : List (List ℕ)) (name : List ℕ) : Type 0 where
   pub rule : is_name name ≡ true
   pub new : has_name names name ≡ false
 
-new_name_leads : (names : List (List ℕ)) (place : List PlaceStep) (value : Option Data)
+pub new_name_leads : (names : List (List ℕ)) (place : List PlaceStep) (value : Option Data)
     → Leads (IsNew names) (new_name names place value)
 unfolding new_name
 new_name_leads names place value =

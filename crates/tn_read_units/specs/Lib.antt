@@ -8,3 +8,4 @@ pub mod Steps
 pub mod Sets
 pub mod Checks
 pub mod Firms
+pub mod Stops
