@@ -36,10 +36,11 @@ use Rattle.tn_read_units.specs.Counts.{count_at}
 use Rattle.tn_read_units.specs.Firms.{OwnAmounts, WrittenFirms, amounts_at, amounts_place, firm_of, firms_of, kind_at, one_amount, one_firm, sets_at}
 use Rattle.tn_read_units.specs.Limits.{most_from, most_holding_sets, most_number, most_steps, most_values}
 use Rattle.tn_read_units.specs.Own.{Members, members_at, one_member, own_trade, side_at}
-use Rattle.tn_read_units.specs.Sets.{SetNumbers, WrittenSet, has_one_form, low_at, numbers_at, numbers_from, one_set, one_value, set_of, sets_of, some_numbers, values_at}
-use Rattle.tn_read_units.specs.Steps.{one_step, part_place, set_place, step_at, steps_at}
+use Rattle.tn_read_units.specs.Sets.{AreNumbers, SetNumbers, WrittenSet, has_one_form, low_at, numbers_at, numbers_from, one_set, one_value, set_of, sets_of, some_numbers, values_at}
+use Rattle.tn_read_units.specs.Steps.{AreSteps, one_step, part_place, set_place, step_at, steps_at}
 use Rattle.tn_read_units.specs.Trades.{UnitTrades}
 use Rattle.tn_read_units.specs.declared.steps.SetAt.{SetAt}
+use Rattle.tn_read_units.proofs.DocumentLeads.{numbers_lead, one_step_more, one_value_more, steps_lead}
 use Rattle.tn_read_units.proofs.HeadLeads.{count_stops}
 
 -- ---- own trades
@@ -152,67 +153,14 @@ module _ (head : UnitTrades) (few : length head.names.trades ≤ most_unit_trade
 
 -- ---- sets
 
+abbrev HasFewNumbers : SetNumbers → Type 0
+HasFewNumbers set = AreNumbers set.numbers
+
 -- lists of few steps and of few numbers
 record IsShort (set : WrittenSet) : Type 0 where
-  bought : length set.bought ≤ most_steps
-  sold : length set.sold ≤ most_steps
-  numbers : IfSome set.numbers (λ (numbers : SetNumbers). length numbers.numbers ≤ most_values)
-
-abbrev IsFewNumbers : SetNumbers → Type 0
-IsFewNumbers numbers = length numbers.numbers ≤ most_values
-
--- what is read of a set has so few
-module _ (at : SetAt) where
-  step_counts : (word : Word) (steps : List Step) (entry : Data)
-      → Leads (λ next. length next ≡ length steps + 1) (one_step at word steps entry)
-  unfolding one_step
-  step_counts word steps entry =
-      leads_after _ (step_at (part_place at word ++ Index (length steps) ∷ []) entry) _ (λ step.
-      leads_ok (λ next. length next ≡ length steps + 1) (steps ++ step ∷ []) (length-append steps (step ∷ [])))
-
-  few_entries : (word : Word) (entries : Items)
-      → Leads (λ _. nat_le (items_len entries) most_steps ≡ true) (holds Limit (part_place at word) (nat_le (items_len entries) most_steps))
-  few_entries word entries = leads_holds Limit (part_place at word) (nat_le (items_len entries) most_steps)
-
-  steps_lead : (word : Word) (value : Option Data) → Leads (λ steps. length steps ≤ most_steps) (steps_at at word value)
-  unfolding steps_at
-  steps_lead word value =
-      leads_after _ (optional_list_at (part_place at word) value) _ (λ entries.
-      leads_bind (λ _. nat_le (items_len entries) most_steps ≡ true) (λ steps. length steps ≤ most_steps)
-      (holds Limit (part_place at word) (nat_le (items_len entries) most_steps)) _ (few_entries word entries) (λ u test.
-      let most = le_from_test (items_len entries) most_steps test in
-      leads_as (λ steps. length steps ≡ 0 + items_len entries) (λ steps. length steps ≤ most_steps) _
-      (λ steps count. omega (arith, count, most)) (leads_count length (one_step at word) (step_counts word) [] entries)))
-
-  value_counts : (numbers : List ℤ) (value : Data)
-      → Leads (λ next. length next ≡ length numbers + 1) (one_value at numbers value)
-  unfolding one_value
-  value_counts numbers value =
-      leads_after _ (number_at most_number (part_place at Values ++ Index (length numbers) ∷ []) value) _ (λ number.
-      leads_ok (λ next. length next ≡ length numbers + 1) (numbers ++ number ∷ [])
-      (length-append numbers (number ∷ [])))
-
-  values_lead : (value : Option Data) → Leads (λ numbers. length numbers ≤ most_values) (values_at at value)
-  unfolding values_at
-  values_lead value =
-      leads_bind (λ items. items_len items ≤ most_values) (λ numbers. length numbers ≤ most_values)
-      (few_at most_values (part_place at Values) value) _ (few_lead most_values (part_place at Values) value)
-      (λ values few.
-      leads_as (λ numbers. length numbers ≡ 0 + items_len values) (λ numbers. length numbers ≤ most_values) _
-      (λ numbers count. omega (arith, count, few)) (leads_count length (one_value at) value_counts [] values))
-
-  from_lead : (from : Data) (values : Option Data) → Leads IsFewNumbers (numbers_from at from values)
-  unfolding numbers_from
-  from_lead from values =
-      leads_after IsFewNumbers (low_at (part_place at From) from) _ (λ low.
-      leads_bind (λ numbers. length numbers ≤ most_values) IsFewNumbers (values_at at values) _ (values_lead values)
-      (λ numbers few. leads_ok IsFewNumbers (record { low = low; numbers = numbers }) few))
-
-  numbers_lead : (from values : Option Data) → Leads (λ found. IfSome found IsFewNumbers) (numbers_at at from values)
-  numbers_lead None values = leads_ok (λ found. IfSome found IsFewNumbers) None tt
-  numbers_lead (Some from) values =
-      leads_bind IsFewNumbers (λ found. IfSome found IsFewNumbers) (numbers_from at from values) _ (from_lead from values)
-      (λ numbers few. leads_ok (λ found. IfSome found IsFewNumbers) (Some numbers) few)
+  bought : AreSteps set.bought
+  sold : AreSteps set.sold
+  numbers : IfSome set.numbers HasFewNumbers
 
 module _ (at : SetAt) (near : at.firm ≤ 16384) (early : at.set ≤ 16384) where
   plain_set : IsPlainPlace (set_place at)
@@ -253,11 +201,11 @@ module _ (at : SetAt) (near : at.firm ≤ 16384) (early : at.set ≤ 16384) wher
       stops_bind IsPlain (optional_list_at (part_place at word) value) _
       (optional_list_stops (part_place at word) (plain_part word) value) (λ entries.
       stops_after IsPlain (λ _. nat_le (items_len entries) most_steps ≡ true)
-      (holds Limit (part_place at word) (nat_le (items_len entries) most_steps)) _ (few_entries at word entries)
+      (holds Limit (part_place at word) (nat_le (items_len entries) most_steps)) _ (leads_holds Limit (part_place at word) (nat_le (items_len entries) most_steps))
       (plain_holds Limit (part_place at word) (nat_le (items_len entries) most_steps) refl (plain_part word)) (λ u test.
       stops_each_few IsPlain (λ steps. Unit {0}) length most_steps (one_step at word)
       (λ steps d start. leads_as (λ next. length next ≡ length steps + 1) _ _ (λ next more. (tt, more))
-      (step_counts at word steps d)) (λ steps d start room. one_step_stops word steps d room) [] entries tt
+      (one_step_more at word steps d)) (λ steps d start room. one_step_stops word steps d room) [] entries tt
       (let most = le_from_test (items_len entries) most_steps test in omega (arith, most))))
 
   value_stops : (numbers : List ℤ) (value : Data) → length numbers + 1 ≤ most_values
@@ -277,7 +225,7 @@ module _ (at : SetAt) (near : at.firm ≤ 16384) (early : at.set ≤ 16384) wher
       (few_stops (part_place at Values) (plain_part Values) most_values value) (λ values few.
       stops_each_few IsPlain (λ numbers. Unit {0}) length most_values (one_value at)
       (λ numbers d start. leads_as (λ next. length next ≡ length numbers + 1) _ _ (λ next more. (tt, more))
-      (value_counts at numbers d)) (λ numbers d start room. value_stops numbers d room) [] values tt
+      (one_value_more at numbers d)) (λ numbers d start room. value_stops numbers d room) [] values tt
       (omega (arith, few)))
 
   low_stops : (value : Data) → StopsPlainly (low_at (part_place at From) value)
@@ -331,9 +279,9 @@ module _ (at : SetAt) (near : at.firm ≤ 16384) (early : at.set ≤ 16384) wher
   unfolding check_steps
   check_steps_stop set short =
       stops_bind IsPlain (unless_rising at Bought (first_rise 0 None set.bought)) _
-      (rising_stops Bought set.bought short.bought) (λ bought.
+      (rising_stops Bought set.bought short.bought.few) (λ bought.
       stops_bind IsPlain (unless_rising at Sold (first_rise 0 None set.sold)) _
-      (rising_stops Sold set.sold short.sold) (λ sold.
+      (rising_stops Sold set.sold short.sold.few) (λ sold.
       plain_holds NotConcave (part_place at Sold ++ Index 0 ∷ Index 1 ∷ [])
       (not (rises_at_none set.bought set.sold)) refl (plain_end Sold 0 1 (omega arith) (omega arith))))
 
@@ -342,7 +290,7 @@ module _ (at : SetAt) (near : at.firm ≤ 16384) (early : at.set ≤ 16384) wher
   after_count None (number ∷ numbers) = let rest = after_count (Some number) numbers in omega (arith, rest)
   after_count (Some before) (number ∷ numbers) = let rest = after_count (Some number) numbers in omega (arith, rest)
 
-  check_numbers_stop : (numbers : SetNumbers) → IsFewNumbers numbers → StopsPlainly (check_numbers at numbers)
+  check_numbers_stop : (numbers : SetNumbers) → HasFewNumbers numbers → StopsPlainly (check_numbers at numbers)
   unfolding check_numbers
   check_numbers_stop numbers few =
       stops_bind IsPlain (holds NoEmpty (set_place at) (has_none numbers)) _
@@ -357,12 +305,13 @@ module _ (at : SetAt) (near : at.firm ≤ 16384) (early : at.set ≤ 16384) wher
           stops_err IsPlain (fault NotConcave (part_place at Values ++ Index k ∷ []))
           (plain_fault NotConcave (part_place at Values ++ Index k ∷ []) refl
           (plain_item Values k (let inside = within k refl in let count = after_count None numbers.numbers in
-          omega (arith, inside, count, few))))
+          let most = few.few in
+          omega (arith, inside, count, most))))
 
   check_form_stops : (set : WrittenSet) → IsShort set → StopsPlainly (check_form at set set.numbers)
   check_form_stops set short = by set.numbers short.numbers
     where
-      by : (numbers : Option SetNumbers) → IfSome numbers IsFewNumbers → StopsPlainly (check_form at set numbers)
+      by : (numbers : Option SetNumbers) → IfSome numbers HasFewNumbers → StopsPlainly (check_form at set numbers)
       by None few = check_steps_stop set short
       by (Some numbers) few = check_numbers_stop numbers few
 
@@ -392,12 +341,12 @@ module _ (head : UnitTrades) (few_trades : length head.names.trades ≤ most_uni
       leads_after IsShort (object_of CountSetObject (set_place at) (Some set)) _ (λ object.
       leads_after IsShort (holds Shape (set_place at) (has_one_form set)) _ (λ form.
       leads_after IsShort (members_at head at.firm (part_place at Trades) (get (codes "trades") set)) _ (λ members.
-      leads_bind (λ found. IfSome found (λ (numbers : SetNumbers). length numbers.numbers ≤ most_values)) IsShort
+      leads_bind (λ found. IfSome found HasFewNumbers) IsShort
       (numbers_at at (get (codes "from") set) (get (codes "values") set)) _
       (numbers_lead at (get (codes "from") set) (get (codes "values") set)) (λ numbers few.
-      leads_bind (λ steps. length steps ≤ most_steps) IsShort (steps_at at Bought (get (codes "bought") set)) _
+      leads_bind AreSteps IsShort (steps_at at Bought (get (codes "bought") set)) _
       (steps_lead at Bought (get (codes "bought") set)) (λ bought few_bought.
-      leads_bind (λ steps. length steps ≤ most_steps) IsShort (steps_at at Sold (get (codes "sold") set)) _
+      leads_bind AreSteps IsShort (steps_at at Sold (get (codes "sold") set)) _
       (steps_lead at Sold (get (codes "sold") set)) (λ sold few_sold.
       leads_ok IsShort (record { members = members; numbers = numbers; bought = bought; sold = sold })
       (record { bought = few_bought; sold = few_sold; numbers = few })))))))

@@ -37,23 +37,9 @@ use Rattle.tn_read_units.specs.Counts.{count_at, units_at}
 use Rattle.tn_read_units.specs.Heads.{AreUnitTrades, all_units, head_of, trades_of, version_at}
 use Rattle.tn_read_units.specs.Limits.{most_units_at_once}
 use Rattle.tn_read_units.specs.Trades.{IsUnitTrade, UnitTrades, one_trade, trade_name, trade_of}
+use Rattle.tn_read_units.proofs.DocumentLeads.{IsCount, count_leads}
 
 -- ---- counts of units
-
-pub count_leads : (place : List PlaceStep) (value : Option Data)
-    → Leads (λ n. (1 ≤ n) × (n ≤ most_units_at_once)) (count_at place value)
-unfolding count_at
-count_leads place value =
-    leads_after _ (whole_at place value) _ (λ z.
-    leads_bind (λ _. (int_lt (pos 0) z && nat_le (unsigned_abs z) most_units_at_once) ≡ true) _
-    (holds AmountRange place (int_lt (pos 0) z && nat_le (unsigned_abs z) most_units_at_once)) _
-    (leads_holds AmountRange place (int_lt (pos 0) z && nat_le (unsigned_abs z) most_units_at_once)) (λ u test.
-    let parts = and_parts (int_lt (pos 0) z) (nat_le (unsigned_abs z) most_units_at_once) test in
-    leads_ok (λ n. (1 ≤ n) × (n ≤ most_units_at_once)) (unsigned_abs z)
-    (some z parts.0, le_from_test (unsigned_abs z) most_units_at_once parts.1)))
-  where
-    some : (z : ℤ) → int_lt (pos 0) z ≡ true → 1 ≤ unsigned_abs z
-    some z e = search (arith, ints, e)
 
 pub count_stops : (place : List PlaceStep) → IsPlainPlace place → (value : Option Data) → StopsPlainly (count_at place value)
 unfolding count_at
@@ -63,9 +49,8 @@ count_stops place plain value =
     (plain_holds AmountRange place (int_lt (pos 0) z && nat_le (unsigned_abs z) most_units_at_once) refl plain)
     (λ few. stops_ok IsPlain (unsigned_abs z)))
 
-units_lead : (place : List PlaceStep) (value : Option Data)
-    → Leads (λ n. (1 ≤ n) × (n ≤ most_units_at_once)) (units_at place value)
-units_lead place None = leads_ok (λ n. (1 ≤ n) × (n ≤ most_units_at_once)) 1 (omega arith, omega arith)
+units_lead : (place : List PlaceStep) (value : Option Data) → Leads IsCount (units_at place value)
+units_lead place None = leads_ok IsCount 1 (record { some = omega arith; few = omega arith })
 units_lead place (Some value) = count_leads place (Some value)
 
 units_stop : (place : List PlaceStep) → IsPlainPlace place → (value : Option Data) → StopsPlainly (units_at place value)
@@ -117,13 +102,13 @@ trade_leads firms t trade =
     leads_bind (λ _. not (seller == buyer) ≡ true) (IsUnitTrade (length firms))
     (holds SelfTrade (Key Trades ∷ Index t ∷ []) (not (seller == buyer))) _
     (leads_holds SelfTrade (Key Trades ∷ Index t ∷ []) (not (seller == buyer))) (λ u apart.
-    leads_bind (λ n. (1 ≤ n) × (n ≤ most_units_at_once)) (IsUnitTrade (length firms))
+    leads_bind IsCount (IsUnitTrade (length firms))
     (units_at (Key Trades ∷ Index t ∷ Key Units ∷ []) (get (codes "units") trade)) _
-    (units_lead (Key Trades ∷ Index t ∷ Key Units ∷ []) (get (codes "units") trade)) (λ units some.
+    (units_lead (Key Trades ∷ Index t ∷ Key Units ∷ []) (get (codes "units") trade)) (λ units is.
     leads_ok (IsUnitTrade (length firms)) (record { seller = seller; buyer = buyer; units = units }) (record {
       between = record { seller = seller_known; buyer = buyer_known; apart = apart_from_test seller buyer apart };
-      some = some.0;
-      few = some.1;
+      some = is.some;
+      few = is.few;
     })))))
 
 trade_stops : (firms : List (List ℕ)) (t : ℕ) (trade : Data) → t ≤ 16384 → StopsPlainly (trade_of firms t trade)

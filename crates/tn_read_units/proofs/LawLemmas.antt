@@ -1,31 +1,48 @@
 -- The laws of reading documents of units.
-use Rattle.std.proofs.Common.{◌≡◌, arith}
+use Rattle.std.proofs.Common.{◌≡◌, length, arith}
 use Rattle.serde_json.specs.Data.{Data}
+use Rattle.serde_json.specs.Events.{items_len}
 use Rattle.tn_read_shapes.proofs.LeadLemmas.{Leads, leads_after, leads_bind, leads_ok}
 use Rattle.tn_read_shapes.proofs.StopLemmas.{IsPlain, Stops, stops_after, stops_bind, stops_ok}
 use Rattle.tn_read_head.specs.Beside.{IsStop, with_names}
-use Rattle.tn_read_head.proofs.BesideLemmas.{stops_beside}
+use Rattle.tn_read_head.proofs.BesideLemmas.{leads_beside, stops_beside}
 use Rattle.tn_read_head.proofs.ListingStops.{plain_stop}
+use Rattle.tn_read_units.specs.Documents.{IsUnitDocument}
 use Rattle.tn_read_units.specs.Firms.{document_of, firms_of}
 use Rattle.tn_read_units.specs.Heads.{head_of}
 use Rattle.tn_read_units.specs.Stops.{IsNamedDocument, UnitDocumentsAreNamed, UnitFaultsAreSayable}
+use Rattle.tn_read_units.proofs.DocumentLeads.{AreFirmsRead, firms_lead}
 use Rattle.tn_read_units.proofs.FirmStops.{firms_stop}
 use Rattle.tn_read_units.proofs.HeadLeads.{IsUnitHead, head_leads, head_stops}
 
-document_leads : (top : Data) → Leads IsNamedDocument (document_of top)
+document_named : (top : Data) → Leads IsNamedDocument (document_of top)
 unfolding document_of
-document_leads top =
+document_named top =
     leads_bind IsUnitHead IsNamedDocument (head_of top) _ (head_leads top) (λ read is.
     leads_after IsNamedDocument (with_names read.0.names (firms_of read.0 read.1)) _ (λ all.
     leads_ok IsNamedDocument (record { head = read.0; firms = all.firms }) (record {
       firm_names = is.names.firms;
       trade_names = is.names.trades;
-      trades = is.trades;
     })))
 
-document_stops : (top : Data) → Stops IsStop (document_of top)
+pub document_leads : (top : Data) → Leads IsUnitDocument (document_of top)
 unfolding document_of
-document_stops top =
+document_leads top =
+    leads_bind IsUnitHead IsUnitDocument (head_of top) _ (head_leads top) (λ read is.
+    leads_bind (λ all. AreFirmsRead read.0 all × (length all.firms ≡ items_len read.1)) IsUnitDocument
+    (with_names read.0.names (firms_of read.0 read.1)) _
+    (leads_beside (λ all. AreFirmsRead read.0 all × (length all.firms ≡ items_len read.1)) read.0.names
+    (firms_of read.0 read.1) (firms_lead read.0 read.1)) (λ all are.
+    leads_ok IsUnitDocument (record { head = read.0; firms = all.firms }) (record {
+      head = is.trades;
+      named = let count = is.count in omega (arith, are.1, count);
+      few_sets = omega (arith, are.0.counted, are.0.few);
+      each = are.0.each;
+    })))
+
+pub unit_document_stops : (top : Data) → Stops IsStop (document_of top)
+unfolding document_of
+unit_document_stops top =
     stops_after IsStop IsUnitHead (head_of top) _ (head_leads top) (head_stops top) (λ read is.
     stops_bind IsStop (with_names read.0.names (firms_of read.0 read.1)) _
     (stops_beside IsStop IsPlain read.0.names _ (plain_stop read.0.names is.names)
@@ -34,7 +51,7 @@ document_stops top =
     stops_ok IsStop (record { head = read.0; firms = all.firms })))
 
 pub documents_named : UnitDocumentsAreNamed
-documents_named top doc e = (document_leads top).at doc e
+documents_named top doc e = (document_named top).at doc e
 
 pub faults_sayable : UnitFaultsAreSayable
-faults_sayable top stop e = (document_stops top).at stop e
+faults_sayable top stop e = (unit_document_stops top).at stop e

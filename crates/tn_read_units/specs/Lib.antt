@@ -8,4 +8,8 @@ pub mod Steps
 pub mod Sets
 pub mod Checks
 pub mod Firms
+pub mod Worths
+pub mod Documents
+pub mod Placed
+pub mod Laws
 pub mod Stops

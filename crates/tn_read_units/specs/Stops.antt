@@ -4,13 +4,11 @@ use Rattle.serde_json.specs.Data.{Data}
 use Rattle.tn_names.specs.Names.{IsNameList}
 use Rattle.tn_read_head.specs.Beside.{IsStop, Stop}
 use Rattle.tn_read_units.specs.Firms.{UnitDocument, document_of}
-use Rattle.tn_read_units.specs.Heads.{AreUnitTrades}
 
--- different names that keep the rule, one for each firm and one for each trade, and trades within the limits
+-- different names that keep the rule
 pub record IsNamedDocument (doc : UnitDocument) : Type 0 where
   pub firm_names : IsNameList doc.head.names.firms
   pub trade_names : IsNameList doc.head.names.trades
-  pub trades : AreUnitTrades doc.head
 
 -- every document that is read is so
 abbrev pub UnitDocumentsAreNamed : Type 0

@@ -41,6 +41,15 @@ impl Model for OwnAmounts {
     ghost view = { λ amounts. record { named = amounts.named; entries = amounts.entries.items } };
 }
 
+impl OwnAmounts {
+    /// The amounts, in the order in which the firm gives them.
+    pub fn entries(&self) -> &[Amount]
+        ensures { result.now ≡ self.now.entries }
+    {
+        &self.entries
+    }
+}
+
 /// The amounts of firm `f`, none where the member isn't there.
 #[tactic(auto, unfolding(crate::specs::Firms::amounts_at))]
 pub(crate) fn amounts_of(

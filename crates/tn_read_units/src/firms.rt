@@ -5,15 +5,18 @@ ghost use Rattle.serde_json.specs.View.{view, items_view};
 ghost use Rattle.tn_counts.specs.Widths.{most_count_sets, most_unit_firms};
 ghost use Rattle.tn_read_shapes.specs.Reading.{Gives, each};
 ghost use Rattle.tn_read_head.specs.Refused.{Reads};
+ghost use Rattle.tn_read_units.specs.Documents.{IsUnitDocument};
 ghost use Rattle.tn_read_units.specs.Firms.{document_of, firm_of, firms_of, kind_at, one_firm, sets_at};
 
-use crate::amounts::{OwnAmounts, amounts_of};
+use crate::amounts::{Amount, OwnAmounts, amounts_of};
 use crate::checks::check_sets;
 use crate::head::{UnitHead, read_unit_head};
 use crate::sets::{WrittenSet, read_sets};
 use serde_json::Value;
 use std::alloc::Global;
 use std::marker::Model;
+use tn_counts::UnitTrade;
+use tn_names::Names;
 use tn_read_head::DocRefusal;
 use tn_read_shapes::{
     FirmKind, ObjectKind, ReadError, member, object_of, optional_list, require, text,
@@ -37,6 +40,22 @@ impl Model for WrittenFirm {
     ghost Value = { ReadFirm };
 
     ghost view = { λ firm. record { amounts = firm.amounts; sets = firm.sets.items } };
+}
+
+impl WrittenFirm {
+    /// The amounts, in the order in which the firm gives them.
+    pub fn amounts(&self) -> &[Amount]
+        ensures { result.now ≡ self.now.amounts.entries }
+    {
+        self.amounts.entries()
+    }
+
+    /// The sets, in the order in which the firm gives them.
+    pub fn sets(&self) -> &[WrittenSet]
+        ensures { result.now ≡ self.now.sets }
+    {
+        &self.sets
+    }
 }
 
 /// Whether the kind of firm `f` is laminar; another is a fault of shape.
@@ -152,7 +171,9 @@ fn add_firm(
     Ok(())
 }
 
-/// A document whose trades have units: its head, and its firms as they are written.
+/// A document whose trades have units: its head, and its firms as they are written. There is a firm for each name; each
+/// gives amounts and sets of its own trades alone, sets are concave, and of two sets that share a trade one is within the
+/// other.
 #[derive(Drop)]
 pub struct UnitDocument {
     head: UnitHead,
@@ -160,11 +181,47 @@ pub struct UnitDocument {
 }
 
 impl Model for UnitDocument {
+    ghost use Rattle.tn_read_units.specs.Documents.{IsUnitDocument};
     ghost use Rattle.tn_read_units.specs.Firms.{UnitDocument as ReadDocument};
 
     ghost Value = { ReadDocument };
 
     ghost view = { λ doc. record { head = doc.head; firms = doc.firms.items } };
+
+    ghost invariant = { λ doc. IsUnitDocument (record { head = doc.head; firms = doc.firms.items }) };
+}
+
+impl UnitDocument {
+    /// The names of the firms and of the trades.
+    pub fn names(&self) -> &Names
+        ensures is { result.now ≡ self.now.head.names }
+        ensures kept { IsUnitDocument self.now }
+    {
+        self.head.names()
+    }
+
+    /// The names alone.
+    pub fn into_names(self) -> Names
+        ensures { result ≡ self.head.names }
+    {
+        self.head.into_names()
+    }
+
+    /// The trades, in file order.
+    pub fn trades(&self) -> &[UnitTrade]
+        ensures is { result.now ≡ self.now.head.trades }
+        ensures kept { IsUnitDocument self.now }
+    {
+        self.head.trades()
+    }
+
+    /// The firms, in file order.
+    pub fn firms(&self) -> &[WrittenFirm]
+        ensures is { result.now ≡ self.now.firms }
+        ensures kept { IsUnitDocument self.now }
+    {
+        &self.firms
+    }
 }
 
 /// Reads a document whose trades have units. What isn't one is refused with its first fault, beside the names that
