@@ -16,7 +16,7 @@ mod session;
 pub use claim::{FirmClaim, MarketClaim};
 pub use fault::FaultKind;
 pub use holding::Holding;
-pub use lists::{Edits, Holdings, Numbers, Parts, Place, States};
+pub use lists::{Counts, Edits, Holdings, Numbers, Parts, Place, States};
 pub use part::Part;
 pub use place::{PlaceStep, Word};
 pub use reason::Reason;

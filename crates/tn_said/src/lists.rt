@@ -12,6 +12,8 @@ pub type Place = Listed<PlaceStep>;
 pub type Parts = Listed<Part>;
 /// Numbers of cases.
 pub type Numbers = Listed<u32>;
+/// How many units of each trade go, by trade number: 0 where none does.
+pub type Counts = Listed<u32>;
 
 /// What each firm has in an arrangement, by firm number.
 pub type Holdings = Lent<Holding>;

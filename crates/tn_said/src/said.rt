@@ -1,7 +1,7 @@
 //! What the program may say.
 
 use crate::fault::FaultKind;
-use crate::lists::{Holdings, Numbers, Place, States};
+use crate::lists::{Counts, Holdings, Numbers, Place, States};
 use crate::reason::Reason;
 use tn_model::{Contracts, Nodes, Prices, Ranges, TradeEnds, Trades};
 
@@ -118,6 +118,17 @@ pub enum Said {
         /// The trades that are on, ascending.
         on: Trades,
         /// The price of each trade, by trade number.
+        prices: Prices,
+        /// The sum of the firms' worths.
+        surplus: i128,
+        /// The ends of each trade, by trade number.
+        ends: TradeEnds,
+    },
+    /// An equilibrium of trades with units.
+    SolvedByCounts {
+        /// How many units of each trade go, by trade number.
+        counts: Counts,
+        /// The price of each unit of a trade, by trade number.
         prices: Prices,
         /// The sum of the firms' worths.
         surplus: i128,
