@@ -2,6 +2,7 @@
 import {say} from "../words/say.js";
 import {find, NotJson, parse, plain, written} from "./json.js";
 import {isObject, itemsOf, withMember} from "./network.js";
+import {nameOn, unitsOf} from "./standing.js";
 
 /** What no answer is told by: a text that isn't one, or one that is of another document. */
 export class NoAnswer extends Error {}
@@ -50,10 +51,11 @@ export const CLAIMS = ["equilibrium", "better", "impossible", "accepted", "excha
 
 /**
  * Throws NoAnswer where an answer that can be a claim isn't so in the document, as `replay` says: then it is one to another document
- * with the same names. Without a program, or where the claim would make the document too long, nothing is said.
+ * with the same names. Without a program, or where the claim would make the document too long, nothing is said; nor of an answer that
+ * tells units, which can be no claim.
  */
 export async function isSo(network, said, ask) {
-    if (ask === null || !CLAIMS.includes(said.answer)) return;
+    if (ask === null || !CLAIMS.includes(said.answer) || unitsOf(said).size > 0) return;
     const verdict = readAnswer(await ask(["replay"], withMember(network, "claim", written(said))));
     if (verdict.answer === "valid" || verdict.fault === 2n) return;
     if (verdict.answer === "invalid") throw new NoAnswer(`This is no answer to the document: put into it as a claim it isn't valid (${verdict.reason}).`);
@@ -77,7 +79,7 @@ function firmsOf(said) {
 function tradesOf(said) {
     const firsts = (entries) => itemsOf(entries).map((entry) => entry[0]);
     return [said.trade, said.at, ...itemsOf(said.bundle), ...itemsOf(said.keeps), ...itemsOf(said.nodes), ...itemsOf(said.x), ...itemsOf(said.y),
-        ...itemsOf(said.on), ...firsts(said.prices), ...firsts(said.contracts),
+        ...itemsOf(said.on).map(nameOn), ...firsts(said.prices), ...firsts(said.contracts),
         ...itemsOf(said.ranges).flatMap(({trade, low_path, high_path}) => [trade, ...low_path, ...high_path]),
         ...(said.answer === "session" ? said.edits.flatMap(({on, prices}) => [...on, ...firsts(prices)]) : []),
         ...(said.answer === "firms" ? said.firms.flatMap(({has, best}) => [...has, ...best]) : [])].filter((name) => typeof name === "string");

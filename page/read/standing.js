@@ -10,10 +10,20 @@ export function isJudged(network, said) {
     return JUDGED.includes(decided ? network.claim.answer : said.answer);
 }
 
+/** The units of each trade that has some, by its name, where an answer tells them: then `on` has pairs, and else it has names. */
+export function unitsOf(said) {
+    return new Map(itemsOf(said.on).filter(Array.isArray));
+}
+
+/** The name of a trade in the list of those that are on, with its units or without. */
+export function nameOn(entry) {
+    return Array.isArray(entry) ? entry[0] : entry;
+}
+
 /**
- * As `{on, prices, isSigned}`: the names of the trades that take place, or null where nothing says so, and the price of each as text. An
- * answer's own trades and prices come before those of the document; of an outcome those are on that are signed,
- * and `isSigned` says that it is one.
+ * As `{on, prices, units, isSigned}`: the names of the trades that take place, or null where nothing says so, the price of each as
+ * text, and the units of those of which they are told. An answer's own trades and prices come before those of the document; of an
+ * outcome those are on that are signed, and `isSigned` says that it is one.
  */
 export function standing(network, said) {
     if (isJudged(network, said)) {
@@ -26,7 +36,8 @@ export function standing(network, said) {
         return {on: last.on, prices: texts(entriesOf(last.prices))};
     }
     const on = said.on ?? network.arrangement.on;
-    return {on: Array.isArray(on) ? on.map(String) : null, prices: texts(entriesOf(said.prices ?? network.arrangement.prices))};
+    return {on: Array.isArray(on) ? on.map((entry) => String(nameOn(entry))) : null, units: unitsOf(said),
+        prices: texts(entriesOf(said.prices ?? network.arrangement.prices))};
 }
 
 function texts(prices, over = 1n) {

@@ -1,6 +1,7 @@
 // An answer to a document in sentences. They hold no numbers but those of the document, of the answer, and of what `firms` answers.
 import {fraction} from "../read/network.js";
 import {simplest} from "../read/simpler.js";
+import {unitsOf} from "../read/standing.js";
 import {say} from "../words/say.js";
 import {claimed, failed} from "./claims.js";
 import {failingLines} from "./exchange.js";
@@ -42,7 +43,7 @@ const ANSWERS = {
     equilibrium: (said, network) => [say("answer.equilibrium"), ...trading(network, said),
         say("answer.most", {surplus: said.surplus})],
     solved: (said, network) => [say("answer.solved"), ...trading(network, said),
-        say("answer.most", {surplus: said.surplus})],
+        say(unitsOf(said).size > 0 ? "answer.most_units" : "answer.most", {surplus: said.surplus})],
     prices: (said, network) => [say("answer.prices"), ...trading(network, said), say("answer.none_more")],
     cycle: async (said, network, ask) => {
         const {head, steps} = await storyOf(network, said, ask);

@@ -45,19 +45,23 @@ export class Deals {
         this.network = network;
         this.on = stands.on ?? [];
         this.prices = stands.prices;
+        this.units = stands.units ?? new Map();
     }
 
     get off() {
         return this.network.trades.map(({name}) => name).filter((name) => !this.on.includes(name));
     }
 
-    /** Names, with parallel ones at one price together, as `{seller, buyer, names, price}`; a price is absent where there is none. */
+    /**
+     * Names, with parallel ones at one price together, as `{seller, buyer, names, price, units}`; a price is absent where there is
+     * none, and so are units, with which a trade stands alone.
+     */
     groups(names) {
         const groups = new Map();
         for (const name of names) {
-            const {seller, buyer} = this.network.trade(name), price = this.prices.get(name);
-            const key = JSON.stringify([seller, buyer, price]);
-            if (!groups.has(key)) groups.set(key, {seller, buyer, names: [], price});
+            const {seller, buyer} = this.network.trade(name), price = this.prices.get(name), units = this.units.get(name);
+            const key = JSON.stringify([seller, buyer, price, units === undefined ? null : name]);
+            if (!groups.has(key)) groups.set(key, {seller, buyer, names: [], price, units});
             groups.get(key).names.push(name);
         }
         return [...groups.values()];
@@ -88,12 +92,13 @@ export class Deals {
     }
 }
 
-/** The keys of what is said of a lane, with its price and without one. */
-const PRICED = ["deal.priced", "deal.unpriced"], SELLS = ["deal.sells", "deal.sells_unpriced"];
+/** The keys of what is said of a lane, with its price and without one, and of a trade with units. */
+const PRICED = ["deal.priced", "deal.unpriced"], SELLS = ["deal.sells", "deal.sells_unpriced", "deal.sells_units"];
 const DOES = [["deal.does_sell", "deal.does_sell_unpriced"], ["deal.does_buy", "deal.does_buy_unpriced"]];
 const DO = [["deal.do_sell", "deal.do_sell_unpriced"], ["deal.do_buy", "deal.do_buy_unpriced"]];
 
-function told({names, price, ...ends}, [priced, unpriced]) {
+function told({names, price, units, ...ends}, [priced, unpriced, counted]) {
+    if (units !== undefined) return say(counted, {...ends, trades: listed(names), count: units, price});
     const values = {...ends, trades: listed(names), count: names.length};
     return price === undefined ? say(unpriced, values) : say(priced, {...values, price});
 }

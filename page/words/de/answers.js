@@ -16,6 +16,10 @@ export const ANSWERS = {
             one: "{seller} verkauft {trades} für {price} an {buyer}",
             other: "{seller} verkauft {trades} für je {price} an {buyer}",
         },
+        sells_units: {
+            one: "{seller} verkauft {count} Einheit von {trades} für {price} an {buyer}",
+            other: "{seller} verkauft {count} Einheiten von {trades} für je {price} an {buyer}",
+        },
         does_nothing: "macht kein Geschäft", does_sell_unpriced: "verkauft {trades} an {buyer}",
         does_sell: {
             one: "verkauft {trades} für {price} an {buyer}",
@@ -52,6 +56,7 @@ export const ANSWERS = {
             + "besten ist, und keine würde lieber etwas anderes tun.",
         most: "Die Summe der Werte aller Firmen ist {surplus}, und keine andere Menge von Geschäften hat eine "
             + "größere.",
+        most_units: "Die Summe der Werte aller Firmen ist {surplus}, und bei keinen anderen Mengen ist sie größer.",
         prices: "Zu diesen Geschäften gibt es Preise: Bei den folgenden hat jede Firma ein Bündel, das für sie am "
             + "besten ist, und keine würde lieber etwas anderes tun.",
         none_more: "Keine andere Menge von Geschäften hat eine größere Summe der Werte.",

@@ -13,6 +13,10 @@ export const ANSWERS = {
             one: "{seller} sells {trades} to {buyer} at {price}",
             other: "{seller} sells {trades} to {buyer} at {price} each",
         },
+        sells_units: {
+            one: "{seller} sells {count} unit of {trades} to {buyer} at {price}",
+            other: "{seller} sells {count} units of {trades} to {buyer} at {price} each",
+        },
         does_nothing: "trades nothing", does_sell_unpriced: "sells {trades} to {buyer}",
         does_sell: {one: "sells {trades} to {buyer} at {price}", other: "sells {trades} to {buyer} at {price} each"},
         does_buy_unpriced: "buys {trades} from {seller}",
@@ -38,6 +42,7 @@ export const ANSWERS = {
         solved: "An equilibrium is found: at these prices each firm has a bundle that is best for [it|them], and nobody "
             + "would rather do something else.",
         most: "The worths of the firms sum to {surplus}, and no other set of trades has more.",
+        most_units: "The worths of the firms sum to {surplus}, and no other numbers of units have more.",
         prices: "There are prices for these trades: at those below each firm has a bundle that is best for [it|them], and "
             + "nobody would rather do something else.",
         none_more: "No other set of trades has a greater sum of worths.",

@@ -30,6 +30,17 @@ test("every answer to an example is told in sentences", {skip}, async () => {
     }
 });
 
+test("an answer that tells units is said with them, and only of a document with its trades", async () => {
+    const trades = [["a-n", "a", "n"], ["a-s", "a", "s"], ["b-n", "b", "n"]].map(([name, seller, buyer]) => ({name, seller, buyer}));
+    const network = new Network(JSON.stringify({version: 4, firms: ["a", "b", "n", "s"].map((name) => ({name, kind: "laminar"})), trades}));
+    const said = readAnswer('{"answer":"solved","on":[["a-n",300],["a-s",1]],"prices":[["a-n",58],["a-s",57],["b-n",58]],"surplus":44300}');
+    belongs(network, said);
+    await isSo(network, said, () => assert.fail("it can be no claim"));
+    assert.deepEqual((await explain(network, said, null)).slice(1), ["a sells 300 units of a-n to n at 58 each.", "a sells 1 unit of a-s to s at 57.",
+        "Their prices keep the other trades off: b-n at 58.", "The worths of the firms sum to 44300, and no other numbers of units have more."]);
+    assert.throws(() => belongs(network, {...said, on: [["a-m", 2n]]}), NoAnswer);
+});
+
 /** A program for the network of one trade that is worth -3 to S and 5 to B, of which it knows `firms` alone. */
 async function small(words, document) {
     assert.deepEqual(words, ["firms"]);
