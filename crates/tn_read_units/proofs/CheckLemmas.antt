@@ -39,11 +39,6 @@ append-assoc : (xs ys zs : List Step) → (xs ++ ys) ++ zs ≡ xs ++ (ys ++ zs)
 append-assoc [] ys zs = refl
 append-assoc (x ∷ xs) ys zs = ap (λ (l : List Step). x ∷ l) (append-assoc xs ys zs)
 
--- at most one unit
-pub between_few : (before : Option ℤ) (number : ℤ) → length (between before number) ≤ 1
-between_few None number = omega arith
-between_few (Some before) number = omega arith
-
 append-none : (xs : List Step) → xs ++ [] ≡ xs
 append-none [] = refl
 append-none (x ∷ xs) = ap (λ (l : List Step). x ∷ l) (append-none xs)

@@ -1,6 +1,6 @@
 -- Loops over amounts and steps, as they go through them.
 use Rattle.std.proofs.Common.{◌≡◌, ℕ, zero, suc, ◌+◌, ◌-◌, ◌*◌, ◌<◌, ◌≤◌, refl, sym, ap, ◌∙◌, arith, List, [], ◌∷◌, ◌++◌, length, get_or, drop, ℤ, Bool, true, ◌==◌, if◌then◌else◌}
-use Rattle.std.specs.Prelude.{map, All}
+use Rattle.std.specs.Prelude.{map, min, All}
 use Rattle.std.proofs.lemmas.Bool.{eq-eqb}
 use Rattle.std.proofs.lemmas.List.{append-nil, at_drop_all, at_drop_more}
 use Rattle.std.proofs.lemmas.List.Elements.{All-head, All-tail}
@@ -11,6 +11,7 @@ use Rattle.tn_read_units.specs.Limits.{most_steps, most_units_at_once}
 use Rattle.tn_read_units.specs.Placed.{first_amount, first_units}
 use Rattle.tn_read_units.specs.Steps.{AreSteps, IsStep}
 use Rattle.tn_read_units.specs.declared.amounts.Amount.{Amount}
+use Rattle.tn_read_units.proofs.NumberLemmas.{room-first}
 
 -- the first amount of the trade
 pub amount_here : (amounts : List Amount) (t k : ℕ) (d : Amount) (total : ℤ) → k < length amounts
@@ -33,6 +34,10 @@ module _ (more : List Step) (k left : ℕ) (steps total : List Step) (past : len
       sym (append-nil steps)
       ∙ ap (λ (rest : List Step). steps ++ rest)
       (sym (at_drop_all (λ (rest : List Step). map turned (first_units left rest)) more k past)) ∙ so_far
+
+-- how many units the first units are
+pub first_room : (most : ℕ) (steps : List Step) → room (first_units most steps) ≡ min (room steps) most
+first_room most steps = room-first most steps
 
 room_most : (steps : List Step) (n : ℕ) → All IsStep steps → length steps ≤ n → room steps ≤ n * most_units_at_once
 room_most [] n all few = omega arith

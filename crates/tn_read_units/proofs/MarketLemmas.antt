@@ -46,6 +46,23 @@ pub record IsMadeOf (document : UnitDocument) (market : UnitMarket) : Type 0 whe
   pub sets : IsPermutation (all_placed 0 document.firms) (map as_placed market.sets.items)
   pub sorted : IsNonDecreasingBy (λ set. length set.members.items) market.sets.items
 
+-- what is made of the firms and the trades of a document is made of it
+pub made_from : (document : UnitDocument) (market : UnitMarket) (firms : List WrittenFirm) (trades : List UnitTrade)
+    → firms ≡ document.firms → trades ≡ document.head.trades → market.firms ≡ length firms
+    → market.trades.items ≡ trades → length market.amounts.items ≡ length trades
+    → AreByTrade trades firms market.amounts.items
+    → IsPermutation (all_placed 0 firms) (map as_placed market.sets.items)
+    → IsNonDecreasingBy (λ set. length set.members.items) market.sets.items → IsMadeOf document market
+made_from document market firms trades firms_are trades_are count same as_many by_trade sets sorted = record {
+  firms = count ∙ ap length firms_are;
+  trades = same ∙ trades_are;
+  as_many = as_many ∙ ap length trades_are;
+  by_trade = subst (λ (l : List UnitTrade). AreByTrade l document.firms market.amounts.items) trades_are
+      (subst (λ (w : List WrittenFirm). AreByTrade trades w market.amounts.items) firms_are by_trade);
+  sets = subst (λ (w : List WrittenFirm). IsPermutation (all_placed 0 w) (map as_placed market.sets.items)) firms_are sets;
+  sorted = sorted;
+}
+
 count_placed : (first : ℕ) (firms : List WrittenFirm)
     → length (all_placed first firms) ≡ sum_by (λ firm. length firm.sets) firms
 count_placed first [] = refl
@@ -133,7 +150,9 @@ module _ (document : UnitDocument) (is : IsUnitDocument document) where
     each_set : AreCountSets market.firms market.sets.items
     each_set i set at =
         let of = of_firm i set at in
-        let well = subst (IsPlacedWell market.firms) (sym of.is)
+        let place : 0 + of.place ≡ of.place = omega arith in
+        let same = of.is ∙ ap (λ (g : ℕ). placed g of.written) place in
+        let well = subst (IsPlacedWell market.firms) (sym same)
         (placed_well document.head.trades market.firms of.place of.written
         (omega (arith, made.firms, slice_get_within document.firms of.place of.firm of.firm_is))
         (written_at of.place of.firm of.at of.written of.firm_is of.written_is)) in
@@ -246,6 +265,7 @@ module _ (document : UnitDocument) (is : IsUnitDocument document) where
         → AreCounts document.head.trades counts → (firm_of market f).worth counts ≡ firm.worth counts
     worths_are f firm at counts within =
         let from = firm_from document.head.trades 0 document.firms f firm at in
+        let place : f ≡ 0 + f = omega arith in
         worth_is f from.written from.at counts within
-        ∙ ap (λ (g : ℕ). written_worth document.head.trades g from.written counts) (omega arith)
+        ∙ ap (λ (g : ℕ). written_worth document.head.trades g from.written counts) place
         ∙ ap (λ (c : CountFirm). c.worth counts) from.is

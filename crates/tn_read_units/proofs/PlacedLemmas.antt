@@ -88,8 +88,8 @@ pub net_small : (trades : List UnitTrade) (f : ℕ) (set : WrittenSet) (counts :
     → sum_by (λ trade. trade.units) trades ≤ most_market_units
     → IsAtMost (written_net trades f set counts) most_market_units
 net_small trades f set counts within few =
-    let small = total_small (λ t. if list_any (λ k. k == t) set.members.trades
-    then bought_by f (trade_at trades t) (pos (counts t)) else pos 0) trades
+    let small = total_small trades (λ t. if list_any (λ k. k == t) set.members.trades
+    then bought_by f (trade_at trades t) (pos (counts t)) else pos 0)
     (λ t inside. by t (list_any (λ k. k == t) set.members.trades) (within t inside)) in
     record { low = omega (arith, ints, small.low, few); high = omega (arith, ints, small.high, few) }
   where
@@ -117,7 +117,7 @@ module _ (trades : List UnitTrade) (f : ℕ) (counts : ℕ → ℕ) (within : Ar
   added_is set (negsuc k) = refl
 
   -- the sum over a market's sets is that over all sets alike
-  pub set_sum_is : (sets : List CountSet) → set_sum trades f counts sets ≡ sum_all (λ set. placed_add (as_placed set)) sets
+  set_sum_is : (sets : List CountSet) → set_sum trades f counts sets ≡ sum_all (λ set. placed_add (as_placed set)) sets
   unfolding placed_add placed_number placed_net
   set_sum_is [] = refl
   set_sum_is (set ∷ sets) = by (f == set.firm) refl (set_sum_is sets)
@@ -186,7 +186,7 @@ module _ (trades : List UnitTrade) (f : ℕ) (counts : ℕ → ℕ) (within : Ar
       ∙ sum_all-none (λ (s : WrittenSet). placed_add (placed k s)) firm.sets (other_add k (λ e. omega (arith, e, later))))
       ∙ none-both (sum_all placed_add (all_placed (suc k) firms)) ∙ later_sum (suc k) firms (omega (arith, later))
 
-  pub placed_sum : (k j : ℕ) (firms : List WrittenFirm) (firm : WrittenFirm) → slice_get firms j ≡ Some firm → f ≡ k + j
+  placed_sum : (k j : ℕ) (firms : List WrittenFirm) (firm : WrittenFirm) → slice_get firms j ≡ Some firm → f ≡ k + j
       → All (IsWrittenSet trades f) firm.sets
       → sum_all placed_add (all_placed k firms) ≡ written_sum trades f counts firm.sets
   placed_sum k j [] firm is at all = absurd (none-some firm is)

@@ -1,9 +1,10 @@
 //! What is tested of the sets of a firm once all are read.
 
-ghost use Rattle.std.specs.Prelude.{◌≡◌, ◌+◌, ◌<◌, ◌≤◌, ◌++◌, [], ◌∷◌, nat_lt, Some, None, length, All, IfOk, IfSome, OnOk};
+ghost use Rattle.std.specs.Prelude.{◌≡◌, ◌+◌, ◌<◌, ◌≤◌, ◌++◌, [], ◌∷◌, nat_lt, Some, None, length, All, IfOk, IfErr, IfSome, OnOk};
 ghost use Rattle.std.specs.List.{list_all, list_any};
 ghost use Rattle.tn_base.specs.Arcs.{IsAtMost};
 ghost use Rattle.tn_counts.specs.Widths.{most_count_sets, most_unit_trades};
+ghost use Rattle.tn_read_shapes.specs.declared.error.ReadError.TheVariants.{OutOfMemory};
 ghost use Rattle.tn_read_shapes.specs.Reading.{Gives};
 ghost use Rattle.tn_read_units.specs.Checks.{between, check_form, check_numbers, check_set, check_sets, check_steps, crosses, first_rise, has_none, holding, rises, rises_at_none, steps_after, unless_bent, unless_rising};
 ghost use Rattle.tn_read_units.specs.Limits.{most_holding_sets, most_number, most_values};
@@ -11,7 +12,7 @@ ghost use Rattle.tn_read_units.specs.Limits.{most_holding_sets, most_number, mos
 use crate::sets::{SetNumbers, WrittenSet};
 use crate::steps::SetAt;
 use std::alloc::Global;
-use tn_base::{OutOfMemory, TradeSet};
+use tn_base::TradeSet;
 use tn_links::Step;
 use tn_read_shapes::{ReadError, fault, require};
 use tn_said::{FaultKind, Word};
@@ -143,11 +144,12 @@ fn has_none(set: &SetNumbers) -> bool
 }
 
 /// What each unit adds by a list of numbers.
-pub(crate) fn steps_between(alloc: Global, numbers: &[i64]) -> Result<Vec<Step>, OutOfMemory>
+pub(crate) fn steps_between(alloc: Global, numbers: &[i64]) -> Result<Vec<Step>, ReadError>
     requires few { length numbers.now ≤ most_values }
     requires small { All (λ number. IsAtMost number most_number) numbers.now }
     ensures gives { IfOk result (λ steps. steps.items ≡ steps_after None numbers.now) }
     ensures few { IfOk result (λ steps. length steps.items ≤ most_values) }
+    ensures memory { IfErr result (λ e. e ≡ OutOfMemory) }
 {
     let mut steps = Vec::new(alloc);
     let mut before = None;
@@ -159,10 +161,11 @@ pub(crate) fn steps_between(alloc: Global, numbers: &[i64]) -> Result<Vec<Step>,
 }
 
 /// Puts what the unit between two numbers adds to the steps, where there is a number before.
-fn add_between(steps: &mut Vec<Step>, before: Option<i64>, number: i64) -> Result<(), OutOfMemory>
+fn add_between(steps: &mut Vec<Step>, before: Option<i64>, number: i64) -> Result<(), ReadError>
     requires small_before { IfSome before (λ number. IsAtMost number most_number) }
     requires small { IsAtMost number most_number }
-    ensures { OnOk result (steps.new.items ≡ steps.old.items ++ between before number) }
+    ensures gives { OnOk result (steps.new.items ≡ steps.old.items ++ between before number) }
+    ensures memory { IfErr result (λ e. e ≡ OutOfMemory) }
 {
     if let Some(before) = before {
         steps.push(Step {

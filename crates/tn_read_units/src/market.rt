@@ -1,13 +1,16 @@
 //! Makes the market of a document whose trades have units.
 
-ghost use Rattle.std.specs.Prelude.{◌≡◌, ℕ, ◌<◌, ◌≤◌, ◌++◌, length, map, reverse, slice_get, Some, IfOk, OnOk};
+ghost use Rattle.std.specs.Prelude.{◌≡◌, ℕ, ◌<◌, ◌≤◌, ◌++◌, length, map, reverse, slice_get, Some, None, IfOk, OnOk};
 ghost use Rattle.std.specs.List.Sorted.{IsNonDecreasingBy, IsPermutation};
+ghost use Rattle.tn_base.specs.Arcs.{IsAtMost};
 ghost use Rattle.tn_links.specs.Links.{room};
 ghost use Rattle.tn_counts.specs.Counts.{AreCounts, CountFirm, trade_at};
 ghost use Rattle.tn_counts.specs.Laminar.{amounts_at, firm_of};
 ghost use Rattle.tn_counts.specs.Markets.{IsUnitMarket};
 ghost use Rattle.tn_counts.specs.Widths.{most_market_units, most_unit_firms, most_unit_trades};
+ghost use Rattle.tn_read_units.specs.Checks.{steps_after};
 ghost use Rattle.tn_read_units.specs.Documents.{turned};
+ghost use Rattle.tn_read_units.specs.Limits.{most_number};
 ghost use Rattle.tn_read_units.specs.Placed.{all_placed, amounts_for, as_placed, entries_of, first_amount, first_units, number_at_none, placed, placed_back, placed_steps};
 ghost use Rattle.tn_read_units.specs.Steps.{AreSteps};
 ghost use Rattle.tn_read_units.specs.Worths.{written_firms};
@@ -157,8 +160,18 @@ fn set_steps(alloc: Global, set: &WrittenSet) -> Result<Vec<Step>, OutOfMemory>
     ensures { IfOk result (λ steps. steps.items ≡ placed_steps set.now.numbers set.now.bought set.now.sold) }
 {
     match &set.numbers {
-        Some(numbers) => steps_between(alloc, numbers.numbers()),
+        Some(numbers) => number_steps(alloc, numbers),
         None => joined(alloc, set.bought(), set.sold()),
+    }
+}
+
+/// What each unit adds by the numbers of a set.
+fn number_steps(alloc: Global, set: &SetNumbers) -> Result<Vec<Step>, OutOfMemory>
+    ensures { IfOk result (λ steps. steps.items ≡ steps_after None set.now.numbers) }
+{
+    match steps_between(alloc, set.numbers()) {
+        Ok(steps) => Ok(steps),
+        Err(_) => Err(OutOfMemory),
     }
 }
 
@@ -199,16 +212,25 @@ fn all_turned(alloc: Global, sold: &[Step]) -> Result<Vec<Step>, OutOfMemory>
     let mut left = MOST_UNITS;
     for step in sold {
         let units = step.units.min(left);
-        steps.push(Step {
-            units,
-            each: -step.each,
-        })?;
+        steps.push(turned(*step, units))?;
         left -= units;
     }
     Ok(steps)
 }
 
+/// So many units of a step of units sold, as a step of units less sold.
+fn turned(step: Step, units: u32) -> Step
+    requires { IsAtMost step.each most_number }
+    ensures { result ≡ turned (record { units = units; each = step.each }) }
+{
+    Step {
+        units,
+        each: -step.each,
+    }
+}
+
 /// How many units the fewest net count of a set is below 0.
+#[tactic(auto, using(crate::proofs::LoopLemmas::first_room))]
 fn back_of(set: &WrittenSet) -> u32
     ensures { result ≡ placed_back set.now.numbers set.now.sold }
 {
