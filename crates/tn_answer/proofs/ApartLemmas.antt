@@ -1,12 +1,12 @@
 -- Answers over the same names whose data are equal are written alike.
-use Rattle.std.proofs.Common.{if◌then◌else◌, ◌==◌, ◌*◌, ◌≡◌, ◌==◌, false, ℕ, suc, ℤ, pos, negsuc, ◌+◌, ◌*◌, List, [], ◌∷◌, slice_get, get_or, Option, None, Some, is_some, true≢false, option_and_then, unwrap_or, find, All, IfSome, codes, bytes_eq, refl, sym, ap, ◌∙◌, subst, ◌++◌, arith}
+use Rattle.std.proofs.Common.{if◌then◌else◌, ◌==◌, ◌*◌, ◌≡◌, false, ℕ, suc, ℤ, ◌+◌, List, [], ◌∷◌, get_or, Option, None, Some, is_some, true≢false, find, All, IfSome, codes, bytes_eq, refl, sym, ap, ◌∙◌, arith}
 use Rattle.std.proofs.lemmas.List.Elements.{All-head, All-tail}
-use Rattle.std.proofs.lemmas.Option.{same_Some, slice_get-get_or, unwrap_or-slice_get}
+use Rattle.std.proofs.lemmas.Option.{same_Some}
 use Rattle.std.specs.List.{AllZip}
-use Rattle.serde_json.specs.Data.{Data, null, boolean, number, string, array, object, Items, no_items, item}
+use Rattle.serde_json.specs.Data.{Data, array, member, no_members}
 use Rattle.serde_json.specs.View.{items_of}
 use Rattle.serde_json.specs.Events.{items_len}
-use Rattle.serde_json.specs.Find.{as_integer, as_u64, as_str, as_number, as_array, at, get}
+use Rattle.serde_json.specs.Find.{at, get}
 use Rattle.tn_said.specs.declared.fault.FaultKind.{FaultKind}
 use Rattle.tn_said.specs.declared.fault.FaultKind.TheVariants.{NotJson, TooLong, Shape, BadName, SameName, UnknownFirm, SelfTrade, UnknownTrade, Limit, AmountRange, NotOwnTrade, SameBundle, NoEmpty, NotLaminar, NotConcave, SameTrade, PriceMissing, BadOver, SamePair}
 use Rattle.tn_said.specs.declared.fault.FaultKind.TheVariants.{ExchangeFails as FailsExchange}
@@ -27,78 +27,18 @@ use Rattle.tn_said.specs.declared.said.Page.{Page}
 use Rattle.tn_said.specs.declared.said.Page.TheVariants.{Help, Version as VersionPage, About}
 use Rattle.tn_said.specs.declared.said.Topic.TheVariants.{Check as CheckTopic, Firms as FirmsTopic, Test as TestTopic, Support as SupportTopic, Solve as SolveTopic, Range as RangeTopic, Session as SessionTopic, Judge as JudgeTopic, Replay as ReplayTopic, Drill as DrillTopic, Cases as CasesTopic}
 use Rattle.tn_said.specs.declared.said.Said.{Said}
-use Rattle.tn_said.specs.declared.said.Said.TheVariants.{Usage, ReadFault, NoMemory, Fault as FaultIs, Equilibrium, Better, Impossible, Accepted, ExchangeFails, Supported, Cycle, Solved, Drill, Ranges, Session, Drops, Completes, Blocks, Valid, Invalid, Cases, Page as PageIs, Firms as FirmsIs}
+use Rattle.tn_said.specs.declared.said.Said.TheVariants.{Usage, ReadFault, NoMemory, Fault as FaultIs, Equilibrium, Better, Impossible, Accepted, ExchangeFails, Supported, Cycle, Solved, SolvedByCounts, Drill, Ranges, Session, Drops, Completes, Blocks, Valid, Invalid, Cases, Page as PageIs, Firms as FirmsIs}
 use Rattle.tn_names.specs.Names.{NameLists, IsNameList}
 use Rattle.tn_said.specs.Words.{word_text}
 use Rattle.tn_names.specs.Named.{IsNamed, IsNamedStep, IsNamedTriple}
 use Rattle.tn_answer.specs.Pages.{lines_text, page_lines}
 use Rattle.tn_answer.specs.Rows.{each_from}
-use Rattle.tn_answer.specs.AnswerText.{contracts_data, holding_data, range_data, state_data, states_data, prices_from, nodes_data, step_data, place_data, fault_data, Form, json, lines, answer_form, answer_table, text_of, data_in, form_text, answer, answer_data, answer_line}
+use Rattle.tn_answer.specs.AnswerText.{counts_data, prices_data, contracts_data, holding_data, range_data, state_data, states_data, nodes_data, step_data, place_data, fault_data, answer_form, form_text, answer, answer_data}
 use Rattle.tn_answer.specs.Values.{bound_data, name_data, names_data, option_data, integer_data, numbers_data}
 use Rattle.tn_answer.specs.ReasonText.{reason_members, IsNamedReason}
-use Rattle.tn_answer.specs.Apart.{AnswersAreToldApart, HasNamedPaths, HasShortNumbers, IsNamedAnswer, IsNamedHolding, IsNamedState, IsSameFault, IsSameInRows, IsSameInWideRows, IsSameObject, IsSameStep}
-use Rattle.tn_answer.proofs.DataTexts.{IsPlain, clash, compact_text-tells}
-use Rattle.tn_answer.specs.declared.layout.Layout.TheVariants.{Object as AsObject, Rows as AsRows, WideRows as AsWideRows}
-use Rattle.tn_answer.proofs.LawLemmas.{object_line}
-use Rattle.csv.specs.Writing.{fields_text}
-use Rattle.serde_json.specs.Written.{compact_text}
-use Rattle.tn_answer.proofs.PlainAnswers.{answer_is_plain}
-use Rattle.tn_answer.proofs.SameRows.{same_deals, same_firm_rows, same_prices_alone, same_range_rows}
-
--- ---- parts of data
-
-abbrev text_in : Data → List ℕ
-text_in d = unwrap_or (as_str d) []
-
-abbrev natural_in : Data → ℕ
-natural_in d = unwrap_or (option_and_then as_u64 (as_number d)) 0
-
-abbrev items_in : Data → Items
-items_in d = unwrap_or (as_array d) no_items
-
-abbrev first_in : Data → Data
-first_in d = unwrap_or (at 0 d) null
-
-abbrev rest_of : Items → Items
-rest_of no_items = no_items
-rest_of (item d ds) = ds
-
-abbrev rest_in : Data → Data
-rest_in d = array (rest_of (items_in d))
-
--- the value of an object's member
-abbrev part : List ℕ → Data → Data
-part name d = unwrap_or (get name d) null
-
--- which kind of data it is
-abbrev shape : Data → ℕ
-shape null = 0
-shape (boolean b) = 1
-shape (number n) = 2
-shape (string s) = 3
-shape (array ds) = 4
-shape (object ms) = 5
-
-abbrev integer_in : Data → Option ℤ
-integer_in d = option_and_then as_integer (as_number d)
-
-integer_back : (z : ℤ) → integer_in (integer_data z) ≡ Some z
-integer_back (pos n) = refl
-integer_back (negsuc n) = refl
-
-same_integer : (y z : ℤ) → integer_data y ≡ integer_data z → y ≡ z
-same_integer y z e = same_Some y z (sym (integer_back y) ∙ ap integer_in e ∙ integer_back z)
-
--- the prices stand in their data, whatever the names
-same_prices : (names : List (List ℕ)) (k : ℕ) (xs ys : List ℤ)
-    → array (items_of (prices_from names k xs)) ≡ array (items_of (prices_from names k ys)) → xs ≡ ys
-same_prices names k [] [] e = refl
-same_prices names k [] (y ∷ ys) e = absurd (omega (arith, ap (λ d. items_len (items_in d)) e))
-same_prices names k (x ∷ xs) [] e = absurd (omega (arith, ap (λ d. items_len (items_in d)) e))
-same_prices names k (x ∷ xs) (y ∷ ys) e =
-    let first = same_integer x y (ap (λ d. first_in (rest_in (first_in d))) e) in
-    let rest = same_prices names (suc k) xs ys (ap rest_in e) in
-    λ i. first i ∷ rest i
+use Rattle.tn_answer.specs.Apart.{HasNamedPaths, HasShortNumbers, IsNamedAnswer, IsNamedHolding, IsNamedState, IsSameFault, IsSameObject, IsSameStep}
+use Rattle.tn_answer.proofs.DataParts.{first_in, items_in, name_there, natural_in, nothing_goes, part, rest_in, same_counts, same_integer, same_name, same_prices, shape, text_in}
+use Rattle.tn_answer.proofs.DataTexts.{clash}
 
 -- ---- words
 
@@ -136,20 +76,13 @@ same_word first second e = same_Some first second (sym (word_back first) ∙ ap 
 -- ---- names
 
 module _ (names : List (List ℕ)) (kept : IsNameList names) where
-  name_there : (k : ℕ) → IsNamed names k → slice_get names k ≡ Some (text_in (name_data names k))
-  name_there k there = slice_get-get_or names k [] there ∙ ap Some (sym (unwrap_or-slice_get names k []))
-
-  same_name : (j k : ℕ) → IsNamed names j → IsNamed names k → name_data names j ≡ name_data names k → j ≡ k
-  same_name j k there_j there_k e =
-      kept.once j k _ (name_there j there_j ∙ ap (λ d. Some (text_in d)) e) (name_there k there_k)
-
   same_names : (xs ys : List ℕ) → All (IsNamed names) xs → All (IsNamed names) ys
       → names_data names xs ≡ names_data names ys → xs ≡ ys
   same_names [] [] h k e = refl
   same_names [] (y ∷ ys) h k e = absurd (omega (arith, ap (λ d. items_len (items_in d)) e))
   same_names (x ∷ xs) [] h k e = absurd (omega (arith, ap (λ d. items_len (items_in d)) e))
   same_names (x ∷ xs) (y ∷ ys) h k e =
-      let first = same_name x y (All-head (IsNamed names) x xs h) (All-head (IsNamed names) y ys k) (ap first_in e) in
+      let first = same_name names kept x y (All-head (IsNamed names) x xs h) (All-head (IsNamed names) y ys k) (ap first_in e) in
       let rest = same_names xs ys (All-tail (IsNamed names) x xs h) (All-tail (IsNamed names) y ys k) (ap rest_in e) in
       λ i. first i ∷ rest i
 
@@ -158,7 +91,7 @@ module _ (names : List (List ℕ)) (kept : IsNameList names) where
   same_option None None h k e = refl
   same_option None (Some y) h k e = absurd (clash 0 3 refl (ap shape e))
   same_option (Some x) None h k e = absurd (clash 3 0 refl (ap shape e))
-  same_option (Some x) (Some y) h k e = ap Some (same_name x y h k e)
+  same_option (Some x) (Some y) h k e = ap Some (same_name names kept x y h k e)
 
   same_nodes : (xs ys : List (Option ℕ)) → All (λ node. IfSome node (IsNamed names)) xs
       → All (λ node. IfSome node (IsNamed names)) ys → nodes_data names xs ≡ nodes_data names ys → xs ≡ ys
@@ -178,7 +111,7 @@ module _ (names : List (List ℕ)) (kept : IsNameList names) where
   same_contracts (x ∷ xs) [] h k e = absurd (omega (arith, ap (λ d. items_len (items_in d)) e))
   same_contracts (x ∷ xs) (y ∷ ys) h k e =
       let named = λ (contract : Contract). IsNamed names contract.trade in
-      let trade = same_name x.trade y.trade (All-head named x xs h) (All-head named y ys k)
+      let trade = same_name names kept x.trade y.trade (All-head named x xs h) (All-head named y ys k)
       (ap (λ d. first_in (first_in d)) e) in
       let price = same_integer x.price y.price (ap (λ d. first_in (rest_in (first_in d))) e) in
       let rest = same_contracts xs ys (All-tail named x xs h) (All-tail named y ys k) (ap rest_in e) in
@@ -236,13 +169,13 @@ module _ (names : List (List ℕ)) (kept : IsNameList names) where
       → step_data names first ≡ step_data names second → IsSameStep names first second
   same_step (Key v) (Key w) h k e = ap Key (same_word v w (ap text_in e))
   same_step (Key v) (Index n) h k e = absurd (clash 3 2 refl (ap shape e))
-  same_step (Key v) (Trade t) h k e = name_there t k ∙ ap (λ d. Some (text_in d)) (sym e)
+  same_step (Key v) (Trade t) h k e = name_there names kept t k ∙ ap (λ d. Some (text_in d)) (sym e)
   same_step (Index m) (Key w) h k e = absurd (clash 2 3 refl (ap shape e))
   same_step (Index m) (Index n) h k e = ap Index (ap natural_in e)
   same_step (Index m) (Trade t) h k e = absurd (clash 2 3 refl (ap shape e))
-  same_step (Trade t) (Key w) h k e = name_there t h ∙ ap (λ d. Some (text_in d)) e
+  same_step (Trade t) (Key w) h k e = name_there names kept t h ∙ ap (λ d. Some (text_in d)) e
   same_step (Trade t) (Index n) h k e = absurd (clash 3 2 refl (ap shape e))
-  same_step (Trade t) (Trade u) h k e = ap Trade (same_name t u h k e)
+  same_step (Trade t) (Trade u) h k e = ap Trade (same_name names kept t u h k e)
 
   same_place : (first second : List PlaceStep) → All (IsNamedStep names) first → All (IsNamedStep names) second
       → place_data names first ≡ place_data names second → AllZip (IsSameStep names) first second
@@ -284,11 +217,11 @@ module _ (names : List (List ℕ)) (kept : IsNameList names) where
 
 -- ---- pages
 
-abbrev first_byte : List ℕ → ℕ
+abbrev pub first_byte : List ℕ → ℕ
 first_byte text = get_or text 0 0
 
 -- each page begins with the program's name
-page_begins : (page : Page) → first_byte (lines_text (page_lines page)) ≡ 109
+pub page_begins : (page : Page) → first_byte (lines_text (page_lines page)) ≡ 109
 page_begins Help = refl
 page_begins VersionPage = refl
 page_begins (About CheckTopic) = refl
@@ -354,6 +287,7 @@ answer_text (ExchangeFails firm x y at) = codes "exchange_fails"
 answer_text (Supported on prices ends) = codes "prices"
 answer_text (Cycle nodes cost) = codes "cycle"
 answer_text (Solved on prices surplus ends) = codes "solved"
+answer_text (SolvedByCounts counts prices surplus ends) = codes "solved"
 answer_text (Drill size start firms surplus) = codes "drill"
 answer_text (Ranges on ranges ends) = codes "ranges"
 answer_text (Session edits) = codes "session"
@@ -389,6 +323,7 @@ answer_says names (ExchangeFails firm x y at) = refl
 answer_says names (Supported on prices ends) = refl
 answer_says names (Cycle nodes cost) = refl
 answer_says names (Solved on prices surplus ends) = refl
+answer_says names (SolvedByCounts counts prices surplus ends) = refl
 answer_says names (Drill size start firms surplus) = refl
 answer_says names (Ranges on ranges ends) = refl
 answer_says names (Session edits) = refl
@@ -545,6 +480,11 @@ module _ (names : NameLists) (trades : IsNameList names.trades) where
       let rest = same_holdings (suc k) xs ys (All-tail named x xs h) (All-tail named y ys i) (ap rest_in e) in
       λ j. first j ∷ rest j
 
+abbrev solved_data : NameLists → Data → List ℤ → ℤ → Data
+solved_data names on prices surplus =
+    answer (codes "solved") (member (codes "on") on (member (codes "prices") (prices_data names.trades prices)
+    (member (codes "surplus") (integer_data surplus) no_members)))
+
 module _ (names : NameLists) (firms : IsNameList names.firms) (trades : IsNameList names.trades) where
   same_mark : (first second : Said) → answer_data names first ≡ answer_data names second
       → mark (answer_text first) ≡ mark (answer_text second)
@@ -556,8 +496,17 @@ module _ (names : NameLists) (firms : IsNameList names.firms) (trades : IsNameLi
   differs first second other e =
       clash (mark (answer_text first)) (mark (answer_text second)) other (same_mark first second e)
 
+  -- what stands behind the trades that are on, or the counts
+  same_solved : (prices : List ℤ) (surplus : ℤ) (prices' : List ℤ) (surplus' : ℤ) (on on' : Data)
+      → solved_data names on prices surplus ≡ solved_data names on' prices' surplus'
+      → (prices ≡ prices') × (surplus ≡ surplus')
+  same_solved prices surplus prices' surplus' on on' e = (
+    same_prices names.trades 0 prices prices' (ap (part (codes "prices")) e),
+    same_integer surplus surplus' (ap (part (codes "surplus")) e),
+  )
+
   -- of pages the text is told, of others the data
-  same_object : (first second : Said) → IsNamedAnswer names first → IsNamedAnswer names second → HasShortNumbers first
+  pub same_object : (first second : Said) → IsNamedAnswer names first → IsNamedAnswer names second → HasShortNumbers first
       → HasShortNumbers second
       → form_text (answer_form names first) ≡ form_text (answer_form names second)
       → answer_data names first ≡ answer_data names second → IsSameObject names first second
@@ -590,9 +539,26 @@ module _ (names : NameLists) (firms : IsNameList names.firms) (trades : IsNameLi
       λ i. Cycle (same_list i) (same_cost i)
   same_object (Solved on prices surplus ends) (Solved on' prices' surplus' ends') h k short short' line e =
       let same_on = same_names names.trades trades on on' h.0 k.0 (ap (part (codes "on")) e) in
-      let same_list = same_prices names.trades 0 prices prices' (ap (part (codes "prices")) e) in
-      let same_surplus = same_integer surplus surplus' (ap (part (codes "surplus")) e) in
-      (same_on, same_list, same_surplus)
+      let rest = same_solved prices surplus prices' surplus' (names_data names.trades on)
+      (names_data names.trades on') e in
+      (same_on, rest.0, rest.1)
+  same_object (SolvedByCounts counts prices surplus ends) (SolvedByCounts counts' prices' surplus' ends') h k short short'
+      line e =
+      let same_list = same_counts names.trades trades 0 counts counts' (h.0 ∙ sym k.0) (omega (arith, h.0))
+      (ap (part (codes "on")) e) in
+      let rest = same_solved prices surplus prices' surplus' (counts_data names.trades counts)
+      (counts_data names.trades counts') e in
+      (same_list, rest.0, rest.1)
+  same_object (Solved on prices surplus ends) (SolvedByCounts counts prices' surplus' ends') h k short short' line e =
+      let nothing = nothing_goes names.trades on 0 counts (ap (part (codes "on")) e) in
+      let rest = same_solved prices surplus prices' surplus' (names_data names.trades on)
+      (counts_data names.trades counts) e in
+      (nothing.0, nothing.1, rest.0, rest.1)
+  same_object (SolvedByCounts counts prices surplus ends) (Solved on prices' surplus' ends') h k short short' line e =
+      let nothing = nothing_goes names.trades on 0 counts (ap (part (codes "on")) (sym e)) in
+      let rest = same_solved prices surplus prices' surplus' (counts_data names.trades counts)
+      (names_data names.trades on) e in
+      (nothing.0, nothing.1, rest.0, rest.1)
   same_object (Drill size start firms surplus) (Drill size' start' firms' surplus') h k short short' line e =
       let same_size = ap (λ d. natural_in (part (codes "size") d)) e in
       let same_start = ap (λ d. natural_in (part (codes "start") d)) e in
@@ -635,161 +601,3 @@ module _ (names : NameLists) (firms : IsNameList names.firms) (trades : IsNameLi
       ap PageIs (sym (page_is_at page) ∙ ap (λ text. page_at (key text)) line ∙ page_is_at other)
   same_object first second h k short short' line e =
       absurd (differs first second refl e)
-
--- ---- forms
-
--- a line of JSON begins with a brace, and a page with the program's first letter
-abbrev beginning : Form → ℕ
-beginning (json value) = 123
-beginning (lines texts) = 109
-
-begins : (names : NameLists) (said : Said) → first_byte (form_text (answer_form names said))
-    ≡ beginning (answer_form names said)
-begins names (PageIs page) = page_begins page
-begins names (FaultIs fault) = by fault.shown
-  where
-    by : (shown : Option Shown) → first_byte (compact_text (fault_data names.trades fault shown) ++ 10 ∷ []) ≡ 123
-    by None = refl
-    by (Some shown) = refl
-begins names said = refl
-
-module _ (names : NameLists) (first second : Said) where
-  starts : (said : Said) (l : Form) → answer_form names said ≡ l → first_byte (form_text l) ≡ beginning l
-  starts said l e = subst (λ l. first_byte (form_text l) ≡ beginning l) e (begins names said)
-
-  -- equal texts begin alike
-  same_beginning : (l m : Form) → answer_form names first ≡ l → answer_form names second ≡ m → form_text l ≡ form_text m
-      → beginning l ≡ beginning m
-  same_beginning l m p q same = sym (starts first l p) ∙ ap first_byte same ∙ starts second m q
-
-  same_data : (l m : Form) → answer_form names first ≡ l → answer_form names second ≡ m → IsPlain (data_in l)
-      → IsPlain (data_in m) → form_text l ≡ form_text m → data_in l ≡ data_in m
-  same_data (json d) (json e) p q plain_d plain_e same =
-      compact_text-tells d e 10 plain_d plain_e (λ h. omega (arith, h)) same
-  same_data (json d) (lines t) p q plain_d plain_e same =
-      absurd (clash 123 109 refl (same_beginning (json d) (lines t) p q same))
-  same_data (lines t) (json e) p q plain_d plain_e same =
-      absurd (clash 109 123 refl (same_beginning (lines t) (json e) p q same))
-  same_data (lines t) (lines u) p q plain_d plain_e same = refl
-
--- ---- rows
-
-module _ (names : NameLists) (firms : IsNameList names.firms) (trades : IsNameList names.trades) where
-  -- answers of one text are written alike as objects
-  told_apart : (first second : Said) → IsNamedAnswer names first → IsNamedAnswer names second → HasShortNumbers first
-      → HasShortNumbers second
-      → form_text (answer_form names first) ≡ form_text (answer_form names second) → IsSameObject names first second
-  told_apart first second h k short short' same =
-      let plain_first = answer_is_plain names firms trades first short in
-      let plain_second = answer_is_plain names firms trades second short' in
-      same_object names firms trades first second h k short short' same
-      (same_data names first second (answer_form names first) (answer_form names second) refl refl plain_first
-      plain_second same)
-
-  -- the first byte of an answer that isn't rows
-  abbrev start : Said → ℕ
-  start said = beginning (answer_form names said)
-
-  abbrev byte : ℕ → List ℕ → ℕ
-  byte k text = get_or text k 0
-
-  -- rows begin with another byte than other answers
-  no_rows : (l : Form) (text : List ℕ) (first : ℕ) → (first == 123) ≡ false → (first == 109) ≡ false
-      → form_text l ≡ text → first_byte (form_text l) ≡ beginning l → byte 0 text ≡ first → ⊥
-  no_rows (json value) text first brace letter e at is =
-      clash first 123 brace (sym is ∙ ap (byte 0) (sym e) ∙ at)
-  no_rows (lines texts) text first brace letter e at is =
-      clash first 109 letter (sym is ∙ ap (byte 0) (sym e) ∙ at)
-
-  -- an answer without rows beside any other
-  same_beside_rows : (first second : Said) → IsNamedAnswer names first → IsNamedAnswer names second
-      → HasShortNumbers first → HasShortNumbers second
-      → form_text (answer_form names first) ≡ text_of (answer_table names second AsRows) (answer_form names second)
-      → IsSameObject names first second
-  unfolding fields_text
-  same_beside_rows first (Supported on prices ends) h k short short' e =
-      absurd (no_rows (answer_form names first) _ 116 refl refl e (begins names first) refl)
-  same_beside_rows first (Solved on prices surplus ends) h k short short' e =
-      absurd (no_rows (answer_form names first) _ 116 refl refl e (begins names first) refl)
-  same_beside_rows first (Ranges on ranges ends) h k short short' e =
-      absurd (no_rows (answer_form names first) _ 116 refl refl e (begins names first) refl)
-  same_beside_rows first (FirmsIs content holdings surplus) h k short short' e =
-      absurd (no_rows (answer_form names first) _ 102 refl refl e (begins names first) refl)
-  same_beside_rows first second h k short short' e = told_apart first second h k short short' e
-
-  same_beside_wide_rows : (first second : Said) → IsNamedAnswer names first → IsNamedAnswer names second
-      → HasShortNumbers first → HasShortNumbers second
-      → form_text (answer_form names first) ≡ text_of (answer_table names second AsWideRows) (answer_form names second)
-      → IsSameObject names first second
-  unfolding fields_text
-  same_beside_wide_rows first (Solved on prices surplus ends) h k short short' e =
-      absurd (no_rows (answer_form names first) _ 116 refl refl e (begins names first) refl)
-  same_beside_wide_rows first second h k short short' e = told_apart first second h k short short' e
-
-  -- heads of different tables differ in a byte
-  same_in_rows : (first second : Said) → IsNamedAnswer names first → IsNamedAnswer names second → HasShortNumbers first
-      → HasShortNumbers second
-      → text_of (answer_table names first AsRows) (answer_form names first)
-      ≡ text_of (answer_table names second AsRows) (answer_form names second) → IsSameInRows names first second
-  unfolding fields_text
-  same_in_rows (Supported on prices ends) (Supported on' prices' ends') h k short short' e =
-      same_deals names firms trades on prices ends on' prices' ends' h.0 k.0 h.1 k.1 h.2 k.2 short short' e
-  same_in_rows (Solved on prices surplus ends) (Solved on' prices' surplus' ends') h k short short' e =
-      same_prices_alone names firms trades on prices on' prices' h.0 k.0 h.1 k.1 short.0 short'.0 e
-  same_in_rows (Ranges on ranges ends) (Ranges on' ranges' ends') h k short short' e =
-      same_range_rows names firms trades on ranges ends on' ranges' ends' h.0 k.0 h.1 k.1 h.3 k.3 short short' e
-  same_in_rows (FirmsIs content holdings surplus) (FirmsIs content' holdings' surplus') h k short short' e =
-      same_firm_rows names firms trades holdings holdings' (h.0 ∙ sym k.0) h.1 k.1 short.1 short'.1 e
-  same_in_rows (Supported on prices ends) (Solved on' prices' surplus' ends') h k short short' e =
-      absurd (clash 115 111 refl (ap (byte 6) e))
-  same_in_rows (Supported on prices ends) (Ranges on' ranges' ends') h k short short' e =
-      absurd (clash 112 108 refl (ap (byte 22) e))
-  same_in_rows (Supported on prices ends) (FirmsIs content' holdings' surplus') h k short short' e =
-      absurd (clash 116 102 refl (ap (byte 0) e))
-  same_in_rows (Solved on prices surplus ends) (Supported on' prices' ends') h k short short' e =
-      absurd (clash 111 115 refl (ap (byte 6) e))
-  same_in_rows (Solved on prices surplus ends) (Ranges on' ranges' ends') h k short short' e =
-      absurd (clash 111 115 refl (ap (byte 6) e))
-  same_in_rows (Solved on prices surplus ends) (FirmsIs content' holdings' surplus') h k short short' e =
-      absurd (clash 116 102 refl (ap (byte 0) e))
-  same_in_rows (Ranges on ranges ends) (Supported on' prices' ends') h k short short' e =
-      absurd (clash 108 112 refl (ap (byte 22) e))
-  same_in_rows (Ranges on ranges ends) (Solved on' prices' surplus' ends') h k short short' e =
-      absurd (clash 115 111 refl (ap (byte 6) e))
-  same_in_rows (Ranges on ranges ends) (FirmsIs content' holdings' surplus') h k short short' e =
-      absurd (clash 116 102 refl (ap (byte 0) e))
-  same_in_rows (FirmsIs content holdings surplus) (Supported on' prices' ends') h k short short' e =
-      absurd (clash 102 116 refl (ap (byte 0) e))
-  same_in_rows (FirmsIs content holdings surplus) (Solved on' prices' surplus' ends') h k short short' e =
-      absurd (clash 102 116 refl (ap (byte 0) e))
-  same_in_rows (FirmsIs content holdings surplus) (Ranges on' ranges' ends') h k short short' e =
-      absurd (clash 102 116 refl (ap (byte 0) e))
-  same_in_rows (Supported on prices ends) second h k short short' e =
-      absurd (clash 116 (start second) refl (ap (byte 0) e ∙ begins names second))
-  same_in_rows (Solved on prices surplus ends) second h k short short' e =
-      absurd (clash 116 (start second) refl (ap (byte 0) e ∙ begins names second))
-  same_in_rows (Ranges on ranges ends) second h k short short' e =
-      absurd (clash 116 (start second) refl (ap (byte 0) e ∙ begins names second))
-  same_in_rows (FirmsIs content holdings surplus) second h k short short' e =
-      absurd (clash 102 (start second) refl (ap (byte 0) e ∙ begins names second))
-  same_in_rows first second h k short short' e = same_beside_rows first second h k short short' e
-
-  same_in_wide_rows : (first second : Said) → IsNamedAnswer names first → IsNamedAnswer names second
-      → HasShortNumbers first → HasShortNumbers second
-      → text_of (answer_table names first AsWideRows) (answer_form names first)
-      ≡ text_of (answer_table names second AsWideRows) (answer_form names second) → IsSameInWideRows names first second
-  same_in_wide_rows (Solved on prices surplus ends) (Solved on' prices' surplus' ends') h k short short' e =
-      same_deals names firms trades on prices ends on' prices' ends' h.0 k.0 h.1 k.1 h.2 k.2 short.0 short'.0 e
-  same_in_wide_rows (Solved on prices surplus ends) second h k short short' e =
-      absurd (clash 116 (start second) refl (ap (byte 0) e ∙ begins names second))
-  same_in_wide_rows first second h k short short' e = same_beside_wide_rows first second h k short short' e
-
-pub answers_told_apart : AnswersAreToldApart
-unfolding answer_line
-answers_told_apart AsObject names first second firms trades h k short short' same =
-    told_apart names firms trades first second h k short short' (object_line names first ∙ same
-    ∙ sym (object_line names second))
-answers_told_apart AsRows names first second firms trades h k short short' same =
-    same_in_rows names firms trades first second h k short short' same
-answers_told_apart AsWideRows names first second firms trades h k short short' same =
-    same_in_wide_rows names firms trades first second h k short short' same

@@ -1,5 +1,5 @@
 -- No answer has a float, so its text is the compact one.
-use Rattle.std.proofs.Common.{◌≡◌, ℕ, suc, ℤ, pos, negsuc, Bool, false, ◌||◌, List, [], ◌∷◌, Option, None, Some, refl, ap, ◌∙◌, codes}
+use Rattle.std.proofs.Common.{◌≡◌, ℕ, zero, suc, ℤ, pos, negsuc, Bool, false, ◌||◌, List, [], ◌∷◌, Option, None, Some, refl, ap, ◌∙◌, codes}
 use Rattle.serde_json.specs.Find.{is_float, of_integer}
 use Rattle.serde_json.specs.Written.{has_float}
 use Rattle.serde_json.specs.Data.{array}
@@ -15,12 +15,13 @@ use Rattle.tn_said.specs.declared.holding.Holding.{Holding}
 use Rattle.tn_model.specs.declared.range.Range.{Range}
 use Rattle.tn_said.specs.declared.session.State.{State}
 use Rattle.tn_said.specs.declared.said.Said.{Said}
-use Rattle.tn_said.specs.declared.said.Said.TheVariants.{Usage, ReadFault, NoMemory, Fault as FaultIs, Equilibrium, Better, Impossible, Accepted, ExchangeFails, Supported, Cycle, Solved, Drill, Ranges, Session, Drops, Completes, Blocks, Valid, Invalid, Cases, Page as PageIs, Firms}
-use Rattle.tn_answer.specs.AnswerText.{prices_from, nodes_data, step_data, place_data, fault_data, contracts_data, range_data, states_data, holding_data, answer, answer_data}
+use Rattle.tn_said.specs.declared.said.Said.TheVariants.{Usage, ReadFault, NoMemory, Fault as FaultIs, Equilibrium, Better, Impossible, Accepted, ExchangeFails, Supported, Cycle, Solved, SolvedByCounts, Drill, Ranges, Session, Drops, Completes, Blocks, Valid, Invalid, Cases, Page as PageIs, Firms}
+use Rattle.tn_answer.specs.AnswerText.{counts_from, prices_from, nodes_data, step_data, place_data, fault_data, contracts_data, range_data, states_data, holding_data, answer, answer_data}
 use Rattle.tn_answer.specs.ReasonText.{reason_members}
 use Rattle.tn_answer.specs.Values.{names_data, option_data, bound_data, numbers_data}
 use Rattle.tn_answer.specs.Rows.{each_from}
 use Rattle.tn_names.specs.Names.{NameLists}
+use Rattle.tn_answer.proofs.CountLemmas.{counts-more}
 
 neither : (a b : Bool) → a ≡ false → b ≡ false → (a || b) ≡ false
 neither a b e f = ap (λ c. c || b) e ∙ f
@@ -42,6 +43,12 @@ module _ (names : List (List ℕ)) where
   prices_have_no_float k [] = refl
   prices_have_no_float k (price ∷ prices) =
       neither _ _ (neither _ _ (integer_is_no_float price) refl) (prices_have_no_float (suc k) prices)
+
+  counts_have_no_float : (k : ℕ) (counts : List ℕ) → has_float (array (items_of (counts_from names k counts))) ≡ false
+  counts_have_no_float k [] = refl
+  counts_have_no_float k (zero ∷ counts) = counts_have_no_float (suc k) counts
+  counts_have_no_float k (suc n ∷ counts) =
+      ap (λ ds. has_float (array (items_of ds))) (counts-more names k n counts) ∙ counts_have_no_float (suc k) counts
 
   nodes_have_no_float : (nodes : List (Option ℕ)) → has_float (nodes_data names nodes) ≡ false
   nodes_have_no_float [] = refl
@@ -142,6 +149,9 @@ answer_has_no_float names (Cycle nodes cost) =
 answer_has_no_float names (Solved on prices surplus ends) =
     neither _ _ (names_have_no_float names.trades on) (neither _ _ (prices_have_no_float names.trades 0 prices)
     (neither _ _ (integer_is_no_float surplus) refl))
+answer_has_no_float names (SolvedByCounts counts prices surplus ends) =
+    neither _ _ (counts_have_no_float names.trades 0 counts)
+    (neither _ _ (prices_have_no_float names.trades 0 prices) (neither _ _ (integer_is_no_float surplus) refl))
 answer_has_no_float names (Drill size start firms surplus) = neither _ _ (integer_is_no_float surplus) refl
 answer_has_no_float names (Ranges on ranges ends) =
     neither _ _ (names_have_no_float names.trades on) (neither _ _ (ranges_have_no_float names.trades 0 ranges) refl)

@@ -1,5 +1,5 @@
 -- Where an answer names no firm and no trade, names don't matter.
-use Rattle.std.proofs.Common.{◌≡◌, ℕ, Bool, true, false, ◌&&◌, List, [], ◌∷◌, map, codes, All, get_or, Option, None, Some, IfSome, is_none, refl, ap, ◌∙◌, true≢false, sym, arith, FitsSigned, ℤ, ◌<◌, ◌^◌}
+use Rattle.std.proofs.Common.{◌≡◌, ℕ, zero, suc, Bool, true, false, ◌&&◌, ◌==◌, List, [], ◌∷◌, map, codes, All, get_or, Option, None, Some, IfSome, is_none, refl, ap, ◌∙◌, true≢false, sym, arith, FitsSigned, ℤ, ◌<◌, ◌^◌}
 use Rattle.std.specs.Int.{w64}
 use Rattle.std.proofs.lemmas.Int.{ints}
 use Rattle.std.specs.List.{list_all}
@@ -16,16 +16,17 @@ use Rattle.tn_said.specs.declared.holding.Holding.{Holding}
 use Rattle.tn_model.specs.declared.range.Range.{Range}
 use Rattle.tn_said.specs.declared.session.State.{State}
 use Rattle.tn_said.specs.declared.said.Said.{Said}
-use Rattle.tn_said.specs.declared.said.Said.TheVariants.{Usage, ReadFault, NoMemory, Fault as FaultIs, Equilibrium, Better, Impossible, Accepted, ExchangeFails, Supported, Cycle, Solved, Drill, Ranges, Session, Drops, Completes, Blocks, Valid, Invalid, Cases, Page as PageIs, Firms}
+use Rattle.tn_said.specs.declared.said.Said.TheVariants.{Usage, ReadFault, NoMemory, Fault as FaultIs, Equilibrium, Better, Impossible, Accepted, ExchangeFails, Supported, Cycle, Solved, SolvedByCounts, Drill, Ranges, Session, Drops, Completes, Blocks, Valid, Invalid, Cases, Page as PageIs, Firms}
 use Rattle.tn_names.specs.Names.{NameLists}
-use Rattle.tn_answer.specs.AnswerText.{contracts_data, state_data, prices_data, nodes_data, step_data, answer, fault_members, fault_data, json, answer_form, form_text, answer_table, text_of, answer_line}
+use Rattle.tn_answer.specs.AnswerText.{contracts_data, counts_data, counts_from, state_data, prices_data, nodes_data, step_data, answer, fault_members, fault_data, json, answer_form, form_text, answer_table, text_of, answer_line}
 use Rattle.tn_answer.specs.declared.layout.Layout.{Layout}
 use Rattle.tn_answer.specs.declared.layout.Layout.TheVariants.{Object, Rows, WideRows}
 use Rattle.tn_answer.specs.Values.{names_data, option_data, integer_data}
 use Rattle.tn_answer.specs.ReasonText.{reason_members, reason_names_nothing, IsReasonWithin, IsShortReason}
 use Rattle.tn_answer.specs.Sayable.{HasShortBounds, IsSayable, IsShortHolding, IsShortState}
 use Rattle.tn_answer.specs.Kept.{HasWithinBounds, IsWithinHolding, IsWithinState, IsWithinClaim, IsWithinPrices, IsWithinClaims}
-use Rattle.tn_answer.specs.Laws.{are_none, is_empty, state_names_nothing, names_no_trade_at, names_no_trade_in, names_nothing}
+use Rattle.tn_answer.proofs.CountLemmas.{is_some}
+use Rattle.tn_answer.specs.Laws.{are_none, has_no_units, is_empty, state_names_nothing, names_no_trade_at, names_no_trade_in, names_nothing}
 
 both : (a b : Bool) → (a && b) ≡ true → (a ≡ true) × (b ≡ true)
 both true b e = (refl, e)
@@ -45,6 +46,18 @@ same_prices : (trades others : List (List ℕ)) (prices : List ℤ) → is_empty
     → prices_data trades prices ≡ prices_data others prices
 same_prices trades others [] e = refl
 same_prices trades others (price ∷ prices) e = absurd (true≢false (sym e))
+
+no_counts : (trades : List (List ℕ)) (k : ℕ) (counts : List ℕ) → has_no_units counts ≡ true
+    → counts_from trades k counts ≡ []
+no_counts trades k [] e = refl
+no_counts trades k (zero ∷ counts) e = no_counts trades (suc k) counts e
+no_counts trades k (suc n ∷ counts) e =
+    absurd (true≢false (sym (both (suc n == 0) (has_no_units counts) e).0 ∙ is_some n))
+
+same_counts : (trades others : List (List ℕ)) (counts : List ℕ) → has_no_units counts ≡ true
+    → counts_data trades counts ≡ counts_data others counts
+same_counts trades others counts e =
+    ap (λ ds. array (items_of ds)) (no_counts trades 0 counts e ∙ sym (no_counts others 0 counts e))
 
 same_contracts : (trades others : List (List ℕ)) (contracts : List Contract) → is_empty contracts ≡ true
     → contracts_data trades contracts ≡ contracts_data others contracts
@@ -142,6 +155,12 @@ same_form (Solved on prices surplus ends) names others e =
     (member (codes "on") (same_names names.trades others.trades on parts.0 j)
     (member (codes "prices") (same_prices names.trades others.trades prices parts.1 j)
     (member (codes "surplus") (integer_data surplus) no_members))))
+same_form (SolvedByCounts counts prices surplus ends) names others e =
+    let parts = both (has_no_units counts) (is_empty prices) e in
+    λ j. json (answer (codes "solved")
+    (member (codes "on") (same_counts names.trades others.trades counts parts.0 j)
+    (member (codes "prices") (same_prices names.trades others.trades prices parts.1 j)
+    (member (codes "surplus") (integer_data surplus) no_members))))
 same_form (Drill size start firms surplus) names others e = refl
 same_form (Ranges on [] ends) names others e =
     let parts = both (are_none on) true e in
@@ -176,6 +195,9 @@ same_rows (Supported on (price ∷ prices) ends) names others e = absurd (true�
 same_rows (Solved on [] surplus ends) names others e = refl
 same_rows (Solved on (price ∷ prices) surplus ends) names others e =
     absurd (true≢false (sym (both (are_none on) false e).1))
+same_rows (SolvedByCounts counts [] surplus ends) names others e = refl
+same_rows (SolvedByCounts counts (price ∷ prices) surplus ends) names others e =
+    absurd (true≢false (sym (both (has_no_units counts) false e).1))
 same_rows (Ranges on [] ends) names others e = refl
 same_rows (Ranges on (range ∷ ranges) ends) names others e = absurd (true≢false (sym (both (are_none on) false e).1))
 same_rows (Firms content [] surplus) names others e = refl
@@ -187,12 +209,16 @@ same_wide_rows : (said : Said) (names others : NameLists) → names_nothing said
 same_wide_rows (Solved on [] surplus ends) names others e = refl
 same_wide_rows (Solved on (price ∷ prices) surplus ends) names others e =
     absurd (true≢false (sym (both (are_none on) false e).1))
+same_wide_rows (SolvedByCounts counts [] surplus ends) names others e = refl
+same_wide_rows (SolvedByCounts counts (price ∷ prices) surplus ends) names others e =
+    absurd (true≢false (sym (both (has_no_units counts) false e).1))
 same_wide_rows said names others e = refl
 
 -- no answer has rows as an object
 no_table : (names : NameLists) (said : Said) → answer_table names said Object ≡ None
 no_table names (Supported on prices ends) = refl
 no_table names (Solved on prices surplus ends) = refl
+no_table names (SolvedByCounts counts prices surplus ends) = refl
 no_table names (Ranges on ranges ends) = refl
 no_table names (Firms content firms surplus) = refl
 no_table names said = refl
@@ -223,6 +249,12 @@ prices_fit prices within k d below = fits (get_or prices k d) (within k d below)
   where
     fits : (z : ℤ) → IsWithinPrices z → FitsSigned w64 z
     fits z small = omega (arith, ints, small.low, small.high)
+
+naturals_fit : (numbers : List ℕ) → All (λ n. n < 2 ^ 32) numbers → All (λ n. n < 2 ^ 64) numbers
+naturals_fit numbers within k d below = wide (get_or numbers k d) (within k d below)
+  where
+    wide : (n : ℕ) → n < 2 ^ 32 → n < 2 ^ 64
+    wide n small = omega (arith, small)
 
 bound_fits : (bound : Option ℤ) → IfSome bound IsWithinPrices → IfSome bound (FitsSigned w64)
 bound_fits None h = tt
@@ -285,6 +317,8 @@ within_sayable (ExchangeFails firm x y at) within = tt
 within_sayable (Supported on prices ends) within = prices_fit prices within
 within_sayable (Cycle nodes cost) within = fits_from_within cost within
 within_sayable (Solved on prices surplus ends) within = (prices_fit prices within.0, fits_from_within surplus within.1)
+within_sayable (SolvedByCounts counts prices surplus ends) within =
+    (naturals_fit counts within.0, prices_fit prices within.1, fits_from_within surplus within.2)
 within_sayable (Drill size start firms surplus) within =
     (omega (arith, within.0), omega (arith, within.1), omega (arith, within.2), fits_from_within surplus within.3)
 within_sayable (Ranges on ranges ends) within = λ k d below. range_fits (get_or ranges k d) (within k d below)
@@ -300,12 +334,6 @@ within_sayable (Firms content firms surplus) within = (
   gain_fits surplus within.2,
 )
 within_sayable (Invalid reason) within = reason_fits reason within
-within_sayable (Cases count failed) within = (
-  omega (arith, within.0),
-  λ k d below. wide (get_or failed k d) (within.1 k d below),
-)
-  where
-    wide : (n : ℕ) → n < 2 ^ 32 → n < 2 ^ 64
-    wide n small = omega (arith, small)
+within_sayable (Cases count failed) within = (omega (arith, within.0), naturals_fit failed within.1)
 within_sayable (Blocks contracts over) within =
     ((λ k d below. fits_from_within (get_or contracts k d).price (within.0 k d below)), fits_from_within over within.1)

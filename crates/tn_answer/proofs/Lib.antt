@@ -2,6 +2,7 @@
 pub mod FitLemmas
 pub mod FloatLemmas
 pub mod MapLemmas
+pub mod CountLemmas
 pub mod LawLemmas
 pub mod DataTexts
 pub mod PlainAnswers
@@ -9,4 +10,6 @@ pub mod EachLemmas
 pub mod RowLemmas
 pub mod BundleLemmas
 pub mod SameRows
+pub mod DataParts
 pub mod ApartLemmas
+pub mod LayoutsApart

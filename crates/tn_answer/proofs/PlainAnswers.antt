@@ -1,5 +1,5 @@
 -- The data of an answer are plain: their texts have characters of names alone, and their numbers are short.
-use Rattle.std.proofs.Common.{◌≡◌, ℕ, suc, ℤ, pos, negsuc, ◌<◌, ◌^◌, true, List, [], ◌∷◌, map, slice_get, All, IfSome, Option, None, Some, unwrap_or, FitsSigned, refl, arith, codes}
+use Rattle.std.proofs.Common.{◌≡◌, ℕ, zero, suc, ℤ, pos, negsuc, ◌<◌, ◌^◌, true, List, [], ◌∷◌, map, slice_get, All, IfSome, Option, None, Some, unwrap_or, FitsSigned, refl, sym, subst, arith, codes}
 use Rattle.std.specs.Int.{w64}
 use Rattle.std.proofs.lemmas.Bool.{and_parts}
 use Rattle.std.proofs.lemmas.List.Elements.{All-head, All-tail}
@@ -22,17 +22,18 @@ use Rattle.tn_said.specs.declared.holding.Holding.{Holding}
 use Rattle.tn_model.specs.declared.range.Range.{Range}
 use Rattle.tn_said.specs.declared.session.State.{State}
 use Rattle.tn_said.specs.declared.said.Said.{Said}
-use Rattle.tn_said.specs.declared.said.Said.TheVariants.{Usage, ReadFault, NoMemory, Fault as FaultIs, Equilibrium, Better, Impossible, Accepted, ExchangeFails, Supported, Cycle, Solved, Drill, Ranges, Session, Drops, Completes, Blocks, Valid, Invalid, Cases, Page as PageIs, Firms}
+use Rattle.tn_said.specs.declared.said.Said.TheVariants.{Usage, ReadFault, NoMemory, Fault as FaultIs, Equilibrium, Better, Impossible, Accepted, ExchangeFails, Supported, Cycle, Solved, SolvedByCounts, Drill, Ranges, Session, Drops, Completes, Blocks, Valid, Invalid, Cases, Page as PageIs, Firms}
 use Rattle.tn_names.specs.Names.{NameLists, IsNameList, is_name}
 use Rattle.tn_said.specs.Words.{word_text}
 use Rattle.tn_answer.specs.Words.{kind_name}
 use Rattle.tn_answer.specs.Rows.{each_from}
 use Rattle.tn_answer.specs.ReasonText.{reason_members, IsShortReason}
 use Rattle.tn_answer.specs.Sayable.{HasShortBounds, IsShortHolding, IsShortState}
-use Rattle.tn_answer.specs.AnswerText.{contract_data, holding_data, range_data, state_data, prices_from, step_data, fault_data, answer, answer_data}
+use Rattle.tn_answer.specs.AnswerText.{contract_data, counts_from, holding_data, range_data, state_data, prices_from, step_data, fault_data, answer, answer_data}
 use Rattle.tn_answer.specs.Values.{bound_data, name_data, option_data}
 use Rattle.tn_names.specs.Named.{HasShortIndex}
 use Rattle.tn_answer.specs.Apart.{HasShortNumbers}
+use Rattle.tn_answer.proofs.CountLemmas.{counts-more}
 use Rattle.tn_answer.proofs.DataTexts.{IsShort, HasNameBytes, IsPlain, ItemsArePlain}
 
 kind_name_is_plain : (kind : FaultKind) → HasNameBytes (kind_name kind)
@@ -75,6 +76,16 @@ module _ (names : List (List ℕ)) (kept : IsNameList names) where
     (name_is_plain k, (integer_is_short price (All-head (FitsSigned w64) price prices h), tt)),
     prices_are_plain (suc k) prices (All-tail (FitsSigned w64) price prices h),
   )
+
+  counts_are_plain : (k : ℕ) (counts : List ℕ) → All (λ n. n < 2 ^ 64) counts
+      → ItemsArePlain (items_of (counts_from names k counts))
+  counts_are_plain k [] h = tt
+  counts_are_plain k (zero ∷ counts) h = counts_are_plain (suc k) counts (All-tail (λ n. n < 2 ^ 64) zero counts h)
+  counts_are_plain k (suc n ∷ counts) h =
+      subst (λ ds. ItemsArePlain (items_of ds)) (sym (counts-more names k n counts)) (
+        (name_is_plain k, (All-head (λ n. n < 2 ^ 64) (suc n) counts h, tt)),
+        counts_are_plain (suc k) counts (All-tail (λ n. n < 2 ^ 64) (suc n) counts h),
+      )
 
   nodes_are_plain : (nodes : List (Option ℕ)) → ItemsArePlain (items_of (map (option_data names) nodes))
   nodes_are_plain [] = tt
@@ -317,6 +328,15 @@ answer_is_plain names firms trades (Solved on prices surplus ends) h = (
     refl,
     names_are_plain names.trades trades on,
     (refl, prices_are_plain names.trades trades 0 prices h.0, (refl, integer_is_short surplus h.1, tt)),
+  ),
+)
+answer_is_plain names firms trades (SolvedByCounts counts prices surplus ends) h = (
+  refl,
+  refl,
+  (
+    refl,
+    counts_are_plain names.trades trades 0 counts h.0,
+    (refl, prices_are_plain names.trades trades 0 prices h.1, (refl, integer_is_short surplus h.2, tt)),
   ),
 )
 answer_is_plain names firms trades (Drill size start count surplus) h =

@@ -1,8 +1,9 @@
 -- Rows that are written one after another, and what rows of one text agree in.
-use Rattle.std.proofs.Common.{◌≡◌, ℕ, zero, suc, ◌+◌, ◌<◌, ◌≤◌, ℤ, pos, negsuc, Bool, true, false, ◌==◌, ◌⊎◌, inl, inr, List, [], ◌∷◌, ◌++◌, length, map, get_or, All, FitsSigned, decimal, refl, sym, ap, ◌∙◌, subst, arith, ne_eqb, eq-eqb, add-one, append-nil, take, slice_get, Option, None, Some, IfSome}
+use Rattle.std.proofs.Common.{◌≡◌, ℕ, zero, suc, ◌+◌, ◌<◌, ◌≤◌, ℤ, pos, negsuc, Bool, true, false, ◌==◌, ◌⊎◌, inl, inr, List, [], ◌∷◌, ◌++◌, length, map, get_or, All, FitsSigned, decimal, refl, sym, ap, ◌∙◌, subst, arith, ne_eqb, eq-eqb, add-one, append-nil, take, slice_get, Option, None, Some, IfSome, ◌^◌, if◌then◌else◌}
 use Rattle.std.specs.Fmt.{signed_decimal}
 use Rattle.std.specs.Int.{w64}
-use Rattle.std.proofs.lemmas.Fmt.{decimal_injective}
+use Rattle.std.proofs.lemmas.Fmt.{decimal_digit, decimal_injective}
+use Rattle.std.proofs.lemmas.List.{get_or_past}
 use Rattle.std.proofs.lemmas.List.Elements.{All-head, All-tail}
 use Rattle.std.proofs.lemmas.Option.{none-some, same_Some, slice_get_within, get_or_from_slice_get}
 use Rattle.csv.specs.Machine.{next_record}
@@ -10,8 +11,8 @@ use Rattle.csv.specs.Reading.{default_config}
 use Rattle.csv.specs.Writing.{default_writer, row_text, read_back}
 use Rattle.csv.specs.declared.parser.State.TheVariants as st
 use Rattle.csv.proofs.RoundTrip.{read-write}
-use Rattle.tn_answer.specs.Rows.{bound_text, each_from, flag_text, is_listed, rows_text, table}
-use Rattle.tn_answer.specs.Apart.{AreSameOn}
+use Rattle.tn_answer.specs.Rows.{bound_text, each_from, flag_text, is_listed, on_flags, on_units, rows_text, table, units_of}
+use Rattle.tn_answer.specs.Apart.{AreSameOn, AreUnitsOn}
 use Rattle.std.proofs.lemmas.List.Folds.{list_any-append}
 use Rattle.std.proofs.lemmas.Map.Keys.{any_passes_from_place}
 use Rattle.tn_answer.proofs.DataTexts.{clash, first_of_decimal}
@@ -152,10 +153,44 @@ below_or_past (suc t) (suc n) = elim (below_or_past t n) [
 
 -- the same trades are on where the flags of all trades are the same
 pub same_on : (n : ℕ) (on others : List ℕ) → All (λ k. k < n) on → All (λ k. k < n) others
-    → ((t : ℕ) → t < n → flag_text (is_listed on t) ≡ flag_text (is_listed others t)) → AreSameOn on others
+    → ((t : ℕ) → t < n → on_flags on t ≡ on_flags others t) → AreSameOn on others
 same_on n on others named other_named flags t = elim (below_or_past t n) [
   | inl below ↦ same_flag (is_listed on t) (is_listed others t) (flags t below)
   | inr past ↦ unlisted n t on named past ∙ sym (unlisted n t others other_named past)
+]
+
+-- ---- units
+
+flag_digit : (flag : Bool) → flag_text flag ≡ decimal (if flag then 1 else 0)
+flag_digit true = sym (decimal_digit 1 (omega arith))
+flag_digit false = sym (decimal_digit 0 (omega arith))
+
+digit_short : (flag : Bool) → (if flag then 1 else 0) < 2 ^ 64
+digit_short true = omega arith
+digit_short false = omega arith
+
+-- the same units of each trade go where the numbers of all trades are the same
+pub same_units : (n : ℕ) (counts others : List ℕ) → length counts ≡ n → length others ≡ n → All (λ m. m < 2 ^ 64) counts
+    → All (λ m. m < 2 ^ 64) others
+    → ((t : ℕ) → t < n → on_units counts t ≡ on_units others t) → counts ≡ others
+same_units n counts others counted other_counted short short' numbers =
+    same_items counts others (counted ∙ sym other_counted) (λ t x y at at'.
+    let below = slice_get_within counts t x at in
+    let inside : t < n = omega (arith, below, counted) in
+    let number = ap decimal (sym (get_or_from_slice_get counts t x 0 at)) ∙ numbers t inside
+    ∙ ap decimal (get_or_from_slice_get others t y 0 at') in
+    decimal_injective x y (there (λ m. m < 2 ^ 64) counts t x short at) (there (λ m. m < 2 ^ 64) others t y short' at')
+    number)
+
+-- flags that are written as numbers of units are: each trade that is on has one unit
+pub same_units_on : (n : ℕ) (on counts : List ℕ) → All (λ k. k < n) on → length counts ≡ n
+    → All (λ m. m < 2 ^ 64) counts
+    → ((t : ℕ) → t < n → on_flags on t ≡ on_units counts t) → AreUnitsOn on counts
+same_units_on n on counts named counted short texts t = elim (below_or_past t n) [
+  | inl below ↦ decimal_injective (if is_listed on t then 1 else 0) (units_of counts t) (digit_short (is_listed on t))
+      (short t 0 (omega (arith, below, counted))) (sym (flag_digit (is_listed on t)) ∙ texts t below)
+  | inr past ↦ ap (λ flag. if flag then 1 else 0) (unlisted n t on named past)
+      ∙ sym (get_or_past counts t 0 (omega (arith, past, counted)))
 ]
 
 -- ---- a list that is looked through

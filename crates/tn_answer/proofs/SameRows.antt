@@ -65,19 +65,21 @@ module _ (names : NameLists) (firms : IsNameList names.firms) (trades : IsNameLi
       (there (FitsSigned w64) ys k y short' at')
       (sym (is k x) ∙ ap (λ r. get_or r i []) (rows k x y at at') ∙ other_is k y))
 
-  pub same_deals : (on : List ℕ) (prices : List ℤ) (ends : List Ends) (on' : List ℕ) (prices' : List ℤ)
-      (ends' : List Ends)
-      → All (IsNamed names.trades) on → All (IsNamed names.trades) on' → length prices ≡ length names.trades
-      → length prices' ≡ length names.trades
-      → AreNamedEnds names ends → AreNamedEnds names ends' → All (FitsSigned w64) prices → All (FitsSigned w64) prices'
+  -- the column `on` of two tables has the same at each trade
+  abbrev pub IsSameColumn : (on others : ℕ → List ℕ) → Type 0
+  IsSameColumn on others = (t : ℕ) → t < length names.trades → on t ≡ others t
+
+  pub same_deals : (on on' : ℕ → List ℕ) (prices : List ℤ) (ends : List Ends) (prices' : List ℤ) (ends' : List Ends)
+      → length prices ≡ length names.trades → length prices' ≡ length names.trades → AreNamedEnds names ends
+      → AreNamedEnds names ends' → All (FitsSigned w64) prices → All (FitsSigned w64) prices'
       → rows_text (table deal_head (deal_row names on ends) prices)
       ≡ rows_text (table deal_head (deal_row names on' ends') prices')
-      → AreSameOn on on' × (prices ≡ prices') × AreSameEnds ends ends'
-  same_deals on prices ends on' prices' ends' named named' one_each one_each' ends_named ends_named' short short' e =
+      → IsSameColumn on on' × (prices ≡ prices') × AreSameEnds ends ends'
+  same_deals on on' prices ends prices' ends' one_each one_each' ends_named ends_named' short short' e =
       let counted = one_each ∙ sym one_each' in
       let rows = same_tables (deal_row names on ends) (deal_row names on' ends') deal_head prices prices' counted e in
       let each = at_each prices prices' (deal_row names on ends) (deal_row names on' ends') one_each one_each' rows in (
-        same_on (length names.trades) on on' named named' (λ t below. ap (λ r. get_or r 3 []) (each t below).2),
+        (λ t below. ap (λ r. get_or r 3 []) (each t below).2),
         same_prices_in_rows 4 prices prices' (deal_row names on ends) (deal_row names on' ends') counted short short'
             (λ k x. refl) (λ k y. refl) rows,
         same_ends ends ends' ends_named ends_named' (λ t below. (
@@ -86,16 +88,15 @@ module _ (names : NameLists) (firms : IsNameList names.firms) (trades : IsNameLi
         )),
       )
 
-  pub same_prices_alone : (on : List ℕ) (prices : List ℤ) (on' : List ℕ) (prices' : List ℤ)
-      → All (IsNamed names.trades) on → All (IsNamed names.trades) on' → length prices ≡ length names.trades
+  pub same_prices_alone : (on on' : ℕ → List ℕ) (prices prices' : List ℤ) → length prices ≡ length names.trades
       → length prices' ≡ length names.trades → All (FitsSigned w64) prices → All (FitsSigned w64) prices'
       → rows_text (table price_head (price_row names on) prices)
-      ≡ rows_text (table price_head (price_row names on') prices') → AreSameOn on on' × (prices ≡ prices')
-  same_prices_alone on prices on' prices' named named' one_each one_each' short short' e =
+      ≡ rows_text (table price_head (price_row names on') prices') → IsSameColumn on on' × (prices ≡ prices')
+  same_prices_alone on on' prices prices' one_each one_each' short short' e =
       let counted = one_each ∙ sym one_each' in
       let rows = same_tables (price_row names on) (price_row names on') price_head prices prices' counted e in
       let each = at_each prices prices' (price_row names on) (price_row names on') one_each one_each' rows in (
-        same_on (length names.trades) on on' named named' (λ t below. ap (λ r. get_or r 1 []) (each t below).2),
+        (λ t below. ap (λ r. get_or r 1 []) (each t below).2),
         same_prices_in_rows 2 prices prices' (price_row names on) (price_row names on') counted short short'
             (λ k x. refl) (λ k y. refl) rows,
       )

@@ -1,6 +1,6 @@
 -- What is written for an answer: rows where its layout has them; else compact JSON, the members of an object in byte
 -- order, and one line end; or a page.
-use Rattle.std.specs.Prelude.{ℕ, ℤ, List, [], ◌∷◌, ◌++◌, map, Option, None, Some, codes}
+use Rattle.std.specs.Prelude.{ℕ, ℤ, List, [], ◌∷◌, ◌++◌, map, flat_map, ◌==◌, if◌then◌else◌, Option, None, Some, codes}
 use Rattle.serde_json.specs.Data.{Data, null, number, string, array, object, unsigned, no_items, item, Members, no_members, member}
 use Rattle.serde_json.specs.View.{items_of}
 use Rattle.serde_json.specs.Written.{compact_text}
@@ -15,11 +15,11 @@ use Rattle.tn_said.specs.declared.session.State.{State}
 use Rattle.tn_said.specs.declared.said.Fault.{Fault}
 use Rattle.tn_said.specs.declared.said.Shown.{Shown}
 use Rattle.tn_said.specs.declared.said.Said.{Said}
-use Rattle.tn_said.specs.declared.said.Said.TheVariants.{Usage, ReadFault, NoMemory, Fault as FaultIs, Equilibrium, Better, Impossible, Accepted, ExchangeFails, Supported, Cycle, Solved, Drill, Ranges, Session, Drops, Completes, Blocks, Valid, Invalid, Cases, Page as PageIs, Firms}
+use Rattle.tn_said.specs.declared.said.Said.TheVariants.{Usage, ReadFault, NoMemory, Fault as FaultIs, Equilibrium, Better, Impossible, Accepted, ExchangeFails, Supported, Cycle, Solved, SolvedByCounts, Drill, Ranges, Session, Drops, Completes, Blocks, Valid, Invalid, Cases, Page as PageIs, Firms}
 use Rattle.tn_names.specs.Names.{NameLists}
 use Rattle.tn_answer.specs.Pages.{lines_text, page_lines}
 use Rattle.tn_answer.specs.ReasonText.{reason_members}
-use Rattle.tn_answer.specs.Rows.{each_from, deal_head, deal_row, firm_head, firm_row, price_head, price_row, range_head, range_row, rows_text, table}
+use Rattle.tn_answer.specs.Rows.{each_from, deal_head, deal_row, firm_head, firm_row, on_flags, on_units, price_head, price_row, range_head, range_row, rows_text, table}
 use Rattle.tn_answer.specs.Values.{name_data, names_data, option_data, integer_data, bound_data, numbers_data}
 use Rattle.tn_said.specs.Words.{word_text}
 use Rattle.tn_answer.specs.Words.{kind_name}
@@ -35,6 +35,19 @@ prices_from names k prices = each_from (price_data names) k prices
 
 abbrev pub prices_data : List (List ℕ) → List ℤ → Data
 prices_data names prices = array (items_of (prices_from names 0 prices))
+
+-- the units of a trade beside its name, where it has any, and those of all trades from k on
+abbrev pub count_data : List (List ℕ) → ℕ → ℕ → Data
+count_data names k units = array (item (name_data names k) (item (number (unsigned units)) no_items))
+
+abbrev pub count_items : List (List ℕ) → ℕ → ℕ → List Data
+count_items names k units = if units == 0 then [] else count_data names k units ∷ []
+
+abbrev pub counts_from : List (List ℕ) → ℕ → List ℕ → List Data
+counts_from names k counts = flat_map (λ ds. ds) (each_from (count_items names) k counts)
+
+abbrev pub counts_data : List (List ℕ) → List ℕ → Data
+counts_data names counts = array (items_of (counts_from names 0 counts))
 
 -- contracts: each a price beside the name of its trade
 abbrev pub contract_data : List (List ℕ) → Contract → Data
@@ -139,6 +152,10 @@ answer_form names (Solved on prices surplus ends) =
     json (answer (codes "solved") (member (codes "on") (names_data names.trades on)
     (member (codes "prices") (prices_data names.trades prices)
     (member (codes "surplus") (integer_data surplus) no_members))))
+answer_form names (SolvedByCounts counts prices surplus ends) =
+    json (answer (codes "solved") (member (codes "on") (counts_data names.trades counts)
+    (member (codes "prices") (prices_data names.trades prices)
+    (member (codes "surplus") (integer_data surplus) no_members))))
 answer_form names (Drill size start firms surplus) =
     json (answer (codes "drill") (member (codes "firms") (number (unsigned firms))
     (member (codes "size") (number (unsigned size)) (member (codes "start") (number (unsigned start))
@@ -178,9 +195,14 @@ answer_data names said = data_in (answer_form names said)
 
 -- the table of an answer in a layout, none where the two have none
 abbrev pub answer_table : NameLists → Said → Layout → Option (List (List (List ℕ)))
-answer_table names (Supported on prices ends) Rows = Some (table deal_head (deal_row names on ends) prices)
-answer_table names (Solved on prices surplus ends) Rows = Some (table price_head (price_row names on) prices)
-answer_table names (Solved on prices surplus ends) WideRows = Some (table deal_head (deal_row names on ends) prices)
+answer_table names (Supported on prices ends) Rows = Some (table deal_head (deal_row names (on_flags on) ends) prices)
+answer_table names (Solved on prices surplus ends) Rows = Some (table price_head (price_row names (on_flags on)) prices)
+answer_table names (Solved on prices surplus ends) WideRows =
+    Some (table deal_head (deal_row names (on_flags on) ends) prices)
+answer_table names (SolvedByCounts counts prices surplus ends) Rows =
+    Some (table price_head (price_row names (on_units counts)) prices)
+answer_table names (SolvedByCounts counts prices surplus ends) WideRows =
+    Some (table deal_head (deal_row names (on_units counts) ends) prices)
 answer_table names (Ranges on ranges ends) Rows = Some (table range_head (range_row names on ends) ranges)
 answer_table names (Firms content firms surplus) Rows = Some (table firm_head (firm_row names) firms)
 answer_table names said layout = None

@@ -1,5 +1,5 @@
 -- How far the text of an answer tells it.
-use Rattle.std.specs.Prelude.{◌≡◌, ℕ, List, length, map, All, IfSome, slice_get, Some}
+use Rattle.std.specs.Prelude.{◌≡◌, ℕ, List, [], length, map, All, IfSome, slice_get, Some, if◌then◌else◌}
 use Rattle.std.specs.List.{AllZip}
 use Rattle.tn_said.specs.declared.place.PlaceStep.{PlaceStep}
 use Rattle.tn_said.specs.declared.place.PlaceStep.TheVariants.{Key, Trade}
@@ -9,11 +9,11 @@ use Rattle.tn_model.specs.declared.range.Range.{Range}
 use Rattle.tn_said.specs.declared.session.State.{State}
 use Rattle.tn_said.specs.declared.said.Fault.{Fault}
 use Rattle.tn_said.specs.declared.said.Said.{Said}
-use Rattle.tn_said.specs.declared.said.Said.TheVariants.{Usage, ReadFault, NoMemory, Fault as FaultIs, Equilibrium, Better, Impossible, Accepted, ExchangeFails, Supported, Cycle, Solved, Drill, Ranges, Session, Drops, Completes, Blocks, Valid, Invalid, Cases, Page as PageIs, Firms}
+use Rattle.tn_said.specs.declared.said.Said.TheVariants.{Usage, ReadFault, NoMemory, Fault as FaultIs, Equilibrium, Better, Impossible, Accepted, ExchangeFails, Supported, Cycle, Solved, SolvedByCounts, Drill, Ranges, Session, Drops, Completes, Blocks, Valid, Invalid, Cases, Page as PageIs, Firms}
 use Rattle.tn_names.specs.Names.{NameLists, IsNameList}
 use Rattle.tn_said.specs.Words.{word_text}
 use Rattle.tn_names.specs.Named.{IsNamed, IsNamedStep, IsNamedTriple, HasShortIndex}
-use Rattle.tn_answer.specs.Rows.{is_listed}
+use Rattle.tn_answer.specs.Rows.{is_listed, units_of}
 use Rattle.tn_answer.specs.ReasonText.{IsNamedReason}
 use Rattle.tn_answer.specs.Sayable.{IsSayable}
 use Rattle.tn_answer.specs.AnswerText.{answer_line}
@@ -39,7 +39,7 @@ pub record AreNamedEnds (names : NameLists) (ends : List Ends) : Type 0 where
   pub sellers : All (λ trade. IsNamed names.firms trade.seller) ends
   pub buyers : All (λ trade. IsNamed names.firms trade.buyer) ends
 
--- an answer speaks only of firms and trades that have a name, and prices are one for each name of a trade
+-- an answer speaks only of firms and trades that have a name, and prices and counts are one for each name of a trade
 abbrev pub IsNamedAnswer : NameLists → Said → Type 0
 IsNamedAnswer names Usage = Unit {0}
 IsNamedAnswer names ReadFault = Unit {0}
@@ -56,6 +56,8 @@ IsNamedAnswer names (Supported on prices ends) = All (IsNamed names.trades) on �
     × AreNamedEnds names ends
 IsNamedAnswer names (Cycle nodes cost) = All (λ node. IfSome node (IsNamed names.trades)) nodes
 IsNamedAnswer names (Solved on prices surplus ends) = All (IsNamed names.trades) on
+    × (length prices ≡ length names.trades) × AreNamedEnds names ends
+IsNamedAnswer names (SolvedByCounts counts prices surplus ends) = (length counts ≡ length names.trades)
     × (length prices ≡ length names.trades) × AreNamedEnds names ends
 IsNamedAnswer names (Drill size start firms surplus) = Unit {0}
 IsNamedAnswer names (Ranges on ranges ends) = All (IsNamed names.trades) on × (length ranges ≡ length names.trades)
@@ -88,13 +90,24 @@ pub record IsSameFault (trades : List (List ℕ)) (first second : Fault) : Type 
   pub place : AllZip (IsSameStep trades) first.place second.place
   pub shown : first.shown ≡ second.shown
 
+-- no trade has a unit
+abbrev pub HasNoUnits : List ℕ → Type 0
+HasNoUnits counts = All (λ n. n ≡ 0) counts
+
 -- answers are written alike as objects: two faults that are, or equal answers, but that an object doesn't tell the ends
--- of trades, nor a support its set
+-- of trades, nor a support its set; and where nothing goes, not whether that is said by trades or by counts
 abbrev pub IsSameObject : NameLists → Said → Said → Type 0
 IsSameObject names (FaultIs first) (FaultIs second) = IsSameFault names.trades first second
 IsSameObject names (Supported on prices ends) (Supported others other_prices other_ends) = prices ≡ other_prices
 IsSameObject names (Solved on prices surplus ends) (Solved others other_prices other_surplus other_ends) = (on ≡ others)
     × (prices ≡ other_prices) × (surplus ≡ other_surplus)
+IsSameObject names (SolvedByCounts counts prices surplus ends) (SolvedByCounts others other_prices other_surplus
+    other_ends) =
+    (counts ≡ others) × (prices ≡ other_prices) × (surplus ≡ other_surplus)
+IsSameObject names (Solved on prices surplus ends) (SolvedByCounts counts other_prices other_surplus other_ends) =
+    (on ≡ []) × HasNoUnits counts × (prices ≡ other_prices) × (surplus ≡ other_surplus)
+IsSameObject names (SolvedByCounts counts prices surplus ends) (Solved on other_prices other_surplus other_ends) =
+    (on ≡ []) × HasNoUnits counts × (prices ≡ other_prices) × (surplus ≡ other_surplus)
 IsSameObject names (Ranges on ranges ends) (Ranges others other_ranges other_ends) = (on ≡ others)
     × (ranges ≡ other_ranges)
 IsSameObject names first second = first ≡ second
@@ -102,6 +115,10 @@ IsSameObject names first second = first ≡ second
 -- the same trades are on
 abbrev pub AreSameOn : List ℕ → List ℕ → Type 0
 AreSameOn on others = (t : ℕ) → is_listed on t ≡ is_listed others t
+
+-- each trade that is on has one unit, and no other trade has any
+abbrev pub AreUnitsOn : List ℕ → List ℕ → Type 0
+AreUnitsOn on counts = (t : ℕ) → (if is_listed on t then 1 else 0) ≡ units_of counts t
 
 -- each trade has the same seller and the same buyer
 pub record AreSameEnds (ends others : List Ends) : Type 0 where
@@ -114,12 +131,20 @@ pub record AreSameBounds (ranges others : List Range) : Type 0 where
   pub same_highs : map (λ range. range.high) ranges ≡ map (λ range. range.high) others
 
 -- answers are written alike as rows: they agree in what their columns say, or are written alike as objects. Rows don't
--- tell a surplus, nor the paths of a range, and of the ends of trades only those of a support and a range do
+-- tell a surplus, nor the paths of a range, nor one unit of a trade from that it is on, and of the ends of trades only
+-- those of a support and a range do
 abbrev pub IsSameInRows : NameLists → Said → Said → Type 0
 IsSameInRows names (Supported on prices ends) (Supported others other_prices other_ends) = AreSameOn on others
     × (prices ≡ other_prices) × AreSameEnds ends other_ends
 IsSameInRows names (Solved on prices surplus ends) (Solved others other_prices other_surplus other_ends) =
     AreSameOn on others × (prices ≡ other_prices)
+IsSameInRows names (SolvedByCounts counts prices surplus ends) (SolvedByCounts others other_prices other_surplus
+    other_ends) =
+    (counts ≡ others) × (prices ≡ other_prices)
+IsSameInRows names (Solved on prices surplus ends) (SolvedByCounts counts other_prices other_surplus other_ends) =
+    AreUnitsOn on counts × (prices ≡ other_prices)
+IsSameInRows names (SolvedByCounts counts prices surplus ends) (Solved on other_prices other_surplus other_ends) =
+    AreUnitsOn on counts × (prices ≡ other_prices)
 IsSameInRows names (Ranges on ranges ends) (Ranges others other_ranges other_ends) = AreSameOn on others
     × AreSameBounds ranges other_ranges × AreSameEnds ends other_ends
 IsSameInRows names (Firms content firms surplus) (Firms other_content other_firms other_surplus) = firms ≡ other_firms
@@ -129,6 +154,13 @@ IsSameInRows names first second = IsSameObject names first second
 abbrev pub IsSameInWideRows : NameLists → Said → Said → Type 0
 IsSameInWideRows names (Solved on prices surplus ends) (Solved others other_prices other_surplus other_ends) =
     AreSameOn on others × (prices ≡ other_prices) × AreSameEnds ends other_ends
+IsSameInWideRows names (SolvedByCounts counts prices surplus ends) (SolvedByCounts others other_prices other_surplus
+    other_ends) =
+    (counts ≡ others) × (prices ≡ other_prices) × AreSameEnds ends other_ends
+IsSameInWideRows names (Solved on prices surplus ends) (SolvedByCounts counts other_prices other_surplus other_ends) =
+    AreUnitsOn on counts × (prices ≡ other_prices) × AreSameEnds ends other_ends
+IsSameInWideRows names (SolvedByCounts counts prices surplus ends) (Solved on other_prices other_surplus other_ends) =
+    AreUnitsOn on counts × (prices ≡ other_prices) × AreSameEnds ends other_ends
 IsSameInWideRows names first second = IsSameObject names first second
 
 -- answers are written alike in a layout

@@ -5,8 +5,8 @@ use Rattle.std.specs.Int.{w64}
 use Rattle.serde_json.specs.Data.{Data, number, string, unsigned, Members, no_members, put}
 use Rattle.tn_names.specs.Names.{NameLists}
 use Rattle.tn_answer.specs.declared.fields.Field.{Field}
-use Rattle.tn_answer.specs.declared.fields.Field.TheVariants.{Word, Number, Natural, Bound, Firm, Trade, TradeOrNull, Trades, Nodes, Prices, Contracts, Numbers, Place}
-use Rattle.tn_answer.specs.AnswerText.{contracts_data, nodes_data, place_data, prices_data}
+use Rattle.tn_answer.specs.declared.fields.Field.TheVariants.{Word, Number, Natural, Bound, Firm, Trade, TradeOrNull, Trades, Nodes, Counts, Prices, Contracts, Numbers, Place}
+use Rattle.tn_answer.specs.AnswerText.{contracts_data, counts_data, nodes_data, place_data, prices_data}
 use Rattle.tn_answer.specs.Values.{bound_data, integer_data, name_data, names_data, numbers_data, option_data}
 
 -- a field as a value
@@ -20,6 +20,7 @@ field_data names (Trade trade) = name_data names.trades trade
 field_data names (TradeOrNull trade) = option_data names.trades trade
 field_data names (Trades trades) = names_data names.trades trades.now
 field_data names (Nodes nodes) = nodes_data names.trades nodes.now
+field_data names (Counts counts) = counts_data names.trades counts.now
 field_data names (Prices prices) = prices_data names.trades prices.now
 field_data names (Contracts contracts) = contracts_data names.trades contracts.now
 field_data names (Numbers numbers) = numbers_data numbers.now
@@ -36,6 +37,7 @@ IsShortField (Trade trade) = Unit {0}
 IsShortField (TradeOrNull trade) = Unit {0}
 IsShortField (Trades trades) = Unit {0}
 IsShortField (Nodes nodes) = Unit {0}
+IsShortField (Counts counts) = Unit {0}
 IsShortField (Prices prices) = All (FitsSigned w64) prices.now
 IsShortField (Contracts contracts) = All (λ contract. FitsSigned w64 contract.price) contracts.now
 IsShortField (Numbers numbers) = Unit {0}

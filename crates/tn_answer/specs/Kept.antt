@@ -7,7 +7,7 @@ use Rattle.tn_said.specs.declared.holding.Holding.{Holding}
 use Rattle.tn_model.specs.declared.range.Range.{Range}
 use Rattle.tn_said.specs.declared.session.State.{State}
 use Rattle.tn_said.specs.declared.said.Said.{Said}
-use Rattle.tn_said.specs.declared.said.Said.TheVariants.{Usage, ReadFault, NoMemory, Fault as FaultIs, Equilibrium, Better, Impossible, Accepted, ExchangeFails, Supported, Cycle, Solved, Drill, Ranges, Session, Drops, Completes, Blocks, Valid, Invalid, Cases, Page as PageIs, Firms}
+use Rattle.tn_said.specs.declared.said.Said.TheVariants.{Usage, ReadFault, NoMemory, Fault as FaultIs, Equilibrium, Better, Impossible, Accepted, ExchangeFails, Supported, Cycle, Solved, SolvedByCounts, Drill, Ranges, Session, Drops, Completes, Blocks, Valid, Invalid, Cases, Page as PageIs, Firms}
 use Rattle.tn_names.specs.Named.{IsAscendingTriple}
 use Rattle.tn_answer.specs.ReasonText.{IsReasonWithin, HasAscendingBundles}
 
@@ -48,6 +48,8 @@ IsWithinClaims (ExchangeFails firm x y at) = Unit {0}
 IsWithinClaims (Supported on prices ends) = All IsWithinPrices prices
 IsWithinClaims (Cycle nodes cost) = IsWithinClaim cost
 IsWithinClaims (Solved on prices surplus ends) = All IsWithinPrices prices × IsWithinClaim surplus
+IsWithinClaims (SolvedByCounts counts prices surplus ends) = All (λ n. n < 2 ^ 32) counts × All IsWithinPrices prices
+    × IsWithinClaim surplus
 IsWithinClaims (Drill size start firms surplus) = (size < 2 ^ 32) × (start < 2 ^ 32) × (firms < 2 ^ 32)
     × IsWithinClaim surplus
 IsWithinClaims (Ranges on ranges ends) = All HasWithinBounds ranges
@@ -86,6 +88,7 @@ HasAscendingTrades (ExchangeFails firm x y at) = IsAscendingTriple (record { x =
 HasAscendingTrades (Supported on prices ends) = IsStrictlyIncreasing on
 HasAscendingTrades (Cycle nodes cost) = Unit {0}
 HasAscendingTrades (Solved on prices surplus ends) = IsStrictlyIncreasing on
+HasAscendingTrades (SolvedByCounts counts prices surplus ends) = Unit {0}
 HasAscendingTrades (Drill size start firms surplus) = Unit {0}
 HasAscendingTrades (Ranges on ranges ends) = IsStrictlyIncreasing on
 HasAscendingTrades (Session edits) = All IsAscendingState edits

@@ -1,12 +1,12 @@
 -- What holds of every answer's text.
-use Rattle.std.specs.Prelude.{◌≡◌, ℕ, Bool, true, false, ◌&&◌, List, [], ◌∷◌, Option, None, Some, is_none}
+use Rattle.std.specs.Prelude.{◌≡◌, ℕ, Bool, true, false, ◌&&◌, ◌==◌, List, [], ◌∷◌, Option, None, Some, is_none}
 use Rattle.std.specs.List.{list_all}
 use Rattle.tn_said.specs.declared.place.PlaceStep.{PlaceStep}
 use Rattle.tn_said.specs.declared.place.PlaceStep.TheVariants.{Key, Index, Trade}
 use Rattle.tn_said.specs.declared.said.Shown.{Shown}
 use Rattle.tn_said.specs.declared.session.State.{State}
 use Rattle.tn_said.specs.declared.said.Said.{Said}
-use Rattle.tn_said.specs.declared.said.Said.TheVariants.{Usage, ReadFault, NoMemory, Fault as FaultIs, Equilibrium, Better, Impossible, Accepted, ExchangeFails, Supported, Cycle, Solved, Drill, Ranges, Session, Drops, Completes, Blocks, Valid, Invalid, Cases, Page as PageIs, Firms}
+use Rattle.tn_said.specs.declared.said.Said.TheVariants.{Usage, ReadFault, NoMemory, Fault as FaultIs, Equilibrium, Better, Impossible, Accepted, ExchangeFails, Supported, Cycle, Solved, SolvedByCounts, Drill, Ranges, Session, Drops, Completes, Blocks, Valid, Invalid, Cases, Page as PageIs, Firms}
 use Rattle.tn_names.specs.Names.{NameLists}
 use Rattle.tn_answer.specs.ReasonText.{reason_names_nothing}
 use Rattle.tn_answer.specs.Sayable.{IsSayable}
@@ -26,6 +26,10 @@ are_none (k ∷ ks) = false
 abbrev pub is_empty : {A : Type 0} → List A → Bool
 is_empty [] = true
 is_empty (x ∷ xs) = false
+
+-- no trade has a unit
+abbrev pub has_no_units : List ℕ → Bool
+has_no_units counts = list_all (λ n. n == 0) counts
 
 abbrev pub state_names_nothing : State → Bool
 state_names_nothing state = are_none state.on && is_empty state.prices
@@ -48,6 +52,7 @@ names_nothing (ExchangeFails firm x y at) = false
 names_nothing (Supported on prices ends) = is_empty prices
 names_nothing (Cycle nodes cost) = list_all is_none nodes
 names_nothing (Solved on prices surplus ends) = are_none on && is_empty prices
+names_nothing (SolvedByCounts counts prices surplus ends) = has_no_units counts && is_empty prices
 names_nothing (Drill size start firms surplus) = true
 names_nothing (Ranges on ranges ends) = are_none on && is_empty ranges
 names_nothing (Session edits) = list_all state_names_nothing edits

@@ -1,7 +1,7 @@
 -- The rows of an answer, for a spreadsheet. A table has a head, and a row for each trade or for each firm; a row has
 -- fields, which are parted by commas in the text, and each row is a line.
-use Rattle.std.specs.Prelude.{◌≡◌, ℕ, suc, ℤ, List, [], ◌∷◌, ◌++◌, Bool, false, Option, Some, None, ◌==◌, if◌then◌else◌, slice_get, unwrap_or, unsigned_abs, codes, flat_map}
-use Rattle.std.specs.Fmt.{signed_decimal}
+use Rattle.std.specs.Prelude.{◌≡◌, ℕ, suc, ℤ, List, [], ◌∷◌, ◌++◌, Bool, false, Option, Some, None, ◌==◌, if◌then◌else◌, slice_get, get_or, unwrap_or, unsigned_abs, codes, flat_map}
+use Rattle.std.specs.Fmt.{decimal, signed_decimal}
 use Rattle.std.specs.List.{list_any}
 use Rattle.csv.specs.Writing.{default_writer, row_text}
 use Rattle.csv.specs.declared.writer.WriterBuilder.{WriterBuilder}
@@ -19,6 +19,10 @@ each_from f k (x ∷ xs) = f k x ∷ each_from f (suc k) xs
 abbrev pub is_listed : List ℕ → ℕ → Bool
 is_listed ks k = list_any (λ j. j == k) ks
 
+-- how many units of a trade go: its count, by trade number
+abbrev pub units_of : List ℕ → ℕ → ℕ
+units_of counts k = get_or counts k 0
+
 -- whether a gain is there and is nothing
 abbrev pub is_nothing : Option ℤ → Bool
 is_nothing None = false
@@ -33,6 +37,13 @@ name_text names k = unwrap_or (slice_get names k) []
 -- 1 for yes, 0 for no
 abbrev pub flag_text : Bool → List ℕ
 flag_text flag = if flag then codes "1" else codes "0"
+
+-- what the column `on` has for each trade: whether it is on, or how many units of it go
+abbrev pub on_flags : List ℕ → ℕ → List ℕ
+on_flags on k = flag_text (is_listed on k)
+
+abbrev pub on_units : List ℕ → ℕ → List ℕ
+on_units counts k = decimal (units_of counts k)
 
 -- a number that may be none, and then the field is empty: a bound of prices, a gain
 abbrev pub bound_text : Option ℤ → List ℕ
@@ -55,21 +66,21 @@ buyer_text firms (Some trade) = name_text firms trade.buyer
 
 -- ---- rows
 
--- the head and the row of a trade: its name, whether it is on, and its price
+-- the head and the row of a trade: its name, what the column `on` has for it, and its price
 abbrev pub price_head : List (List ℕ)
 price_head = codes "trade" ∷ codes "on" ∷ codes "price" ∷ []
 
-abbrev pub price_row : NameLists → List ℕ → ℕ → ℤ → List (List ℕ)
-price_row names on k price = name_text names.trades k ∷ flag_text (is_listed on k) ∷ signed_decimal price ∷ []
+abbrev pub price_row : NameLists → (ℕ → List ℕ) → ℕ → ℤ → List (List ℕ)
+price_row names on k price = name_text names.trades k ∷ on k ∷ signed_decimal price ∷ []
 
 -- the same with who sells and who buys
 abbrev pub deal_head : List (List ℕ)
 deal_head = codes "trade" ∷ codes "seller" ∷ codes "buyer" ∷ codes "on" ∷ codes "price" ∷ []
 
-abbrev pub deal_row : NameLists → List ℕ → List Ends → ℕ → ℤ → List (List ℕ)
+abbrev pub deal_row : NameLists → (ℕ → List ℕ) → List Ends → ℕ → ℤ → List (List ℕ)
 deal_row names on ends k price =
     name_text names.trades k ∷ seller_text names.firms (slice_get ends k) ∷ buyer_text names.firms (slice_get ends k) ∷
-    flag_text (is_listed on k) ∷ signed_decimal price ∷ []
+    on k ∷ signed_decimal price ∷ []
 
 -- with the lowest and the highest price
 abbrev pub range_head : List (List ℕ)

@@ -5,7 +5,7 @@ use Rattle.tn_said.specs.declared.holding.Holding.{Holding}
 use Rattle.tn_model.specs.declared.range.Range.{Range}
 use Rattle.tn_said.specs.declared.session.State.{State}
 use Rattle.tn_said.specs.declared.said.Said.{Said}
-use Rattle.tn_said.specs.declared.said.Said.TheVariants.{Usage, ReadFault, NoMemory, Fault as FaultIs, Equilibrium, Better, Impossible, Accepted, ExchangeFails, Supported, Cycle, Solved, Drill, Ranges, Session, Drops, Completes, Blocks, Valid, Invalid, Cases, Page as PageIs, Firms}
+use Rattle.tn_said.specs.declared.said.Said.TheVariants.{Usage, ReadFault, NoMemory, Fault as FaultIs, Equilibrium, Better, Impossible, Accepted, ExchangeFails, Supported, Cycle, Solved, SolvedByCounts, Drill, Ranges, Session, Drops, Completes, Blocks, Valid, Invalid, Cases, Page as PageIs, Firms}
 use Rattle.tn_answer.specs.ReasonText.{IsShortReason}
 
 -- the numbers of a range, of a state, and of what a firm has fit 64 bits
@@ -36,6 +36,8 @@ IsSayable (ExchangeFails firm x y at) = Unit {0}
 IsSayable (Supported on prices ends) = All (FitsSigned w64) prices
 IsSayable (Cycle nodes cost) = FitsSigned w64 cost
 IsSayable (Solved on prices surplus ends) = All (FitsSigned w64) prices × FitsSigned w64 surplus
+IsSayable (SolvedByCounts counts prices surplus ends) = All (λ n. n < 2 ^ 64) counts × All (FitsSigned w64) prices
+    × FitsSigned w64 surplus
 IsSayable (Drill size start firms surplus) = (size < 2 ^ 64) × (start < 2 ^ 64) × (firms < 2 ^ 64)
     × FitsSigned w64 surplus
 IsSayable (Ranges on ranges ends) = All HasShortBounds ranges

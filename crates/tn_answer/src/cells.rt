@@ -1,6 +1,6 @@
 //! Fields of rows, from data. One loop makes the fields of a row, as one makes the values of an object.
 ghost use Rattle.std.specs.Prelude.{◌≡◌, ◌==◌, ℕ, List, ◌∷◌, ◌++◌, [], All, Some, map, if◌then◌else◌, IfOk, OnOk, IfSome, FitsSigned, string_bytes};
-ghost use Rattle.std.specs.Fmt.{signed_decimal};
+ghost use Rattle.std.specs.Fmt.{decimal, signed_decimal};
 ghost use Rattle.std.specs.Int.{w64};
 ghost use Rattle.csv.specs.Records.{fields_of};
 ghost use Rattle.csv.specs.Writing.{default_writer, fields_written, has_written, row_text, text_written, writer_setup};
@@ -20,6 +20,7 @@ pub(crate) enum Cell<'a> {
     Name(&'a str),
     /// 1 for yes, 0 for no.
     Flag(bool),
+    Natural(u32),
     Number(i128),
     /// Empty where it is none.
     Bound(Option<i128>),
@@ -31,6 +32,12 @@ fn flag_text(flag: bool) -> &'static str
     ensures { result.now ≡ flag_text flag }
 {
     if flag { "1" } else { "0" }
+}
+
+fn natural_text(alloc: Global, number: u32) -> Result<String, OutOfMemory>
+    ensures { IfOk result (λ text. string_bytes text ≡ decimal number) }
+{
+    Ok(number.to_string(alloc)?)
 }
 
 fn number_text(alloc: Global, number: i128) -> Result<String, OutOfMemory>
@@ -76,6 +83,7 @@ fn cell_text(alloc: Global, names: &Names, cell: &Cell) -> Result<String, OutOfM
     match cell {
         Cell::Name(text) => Ok(String::from_str(alloc, text)?),
         Cell::Flag(flag) => Ok(String::from_str(alloc, flag_text(*flag))?),
+        Cell::Natural(number) => natural_text(alloc, *number),
         Cell::Number(number) => number_text(alloc, *number),
         Cell::Bound(bound) => bound_text(alloc, *bound),
         Cell::Bundle(trades) => bundle_text(alloc, names, trades),

@@ -10,13 +10,14 @@ ghost use Rattle.tn_answer.specs.Fields.{field_data, members_of, IsShortField};
 ghost use Rattle.tn_answer.specs.Values.{bound_data};
 
 use crate::arrays::{Items, array_of};
+use crate::counts::counts_value;
 use crate::reasons::numbers_value;
 use crate::values::{firm_name, option_value, trade_value};
 use serde_json::{Map, Value};
 use std::alloc::{AllocError, Global};
 use tn_model::{Contracts, Nodes, Prices, Trades};
 use tn_names::Names;
-use tn_said::{Numbers, Place};
+use tn_said::{Counts, Numbers, Place};
 
 /// What stands beside a key of an answer. Lists of ranges and of states are no fields, since each of their items is an
 /// object of fields: the calls would go in a circle.
@@ -35,6 +36,8 @@ pub(crate) enum Field<'a> {
     TradeOrNull(Option<u32>),
     Trades(&'a Trades),
     Nodes(&'a Nodes),
+    /// Of each trade that has units, its name beside how many.
+    Counts(&'a Counts),
     /// Each beside the name of its trade.
     Prices(&'a Prices),
     /// Each price beside the name of its trade.
@@ -68,6 +71,7 @@ fn field_value(alloc: Global, names: &Names, field: &Field) -> Result<Value, All
         Field::TradeOrNull(trade) => option_value(alloc, names, *trade),
         Field::Trades(trades) => array_of(alloc, names, *trades),
         Field::Nodes(nodes) => array_of(alloc, names, *nodes),
+        Field::Counts(counts) => counts_value(alloc, names, counts),
         Field::Prices(prices) => array_of(alloc, names, *prices),
         Field::Contracts(contracts) => array_of(alloc, names, *contracts),
         Field::Numbers(numbers) => numbers_value(alloc, numbers),

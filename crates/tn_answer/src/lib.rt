@@ -4,6 +4,7 @@
 
 mod arrays;
 mod cells;
+mod counts;
 mod fields;
 mod holdings;
 mod laws;

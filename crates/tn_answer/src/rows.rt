@@ -3,7 +3,9 @@
 ghost use Rattle.std.specs.Prelude.{◌≡◌, ℕ, List, ◌++◌, All, Some, IfOk, OnOk, FitsSigned, slice_get};
 ghost use Rattle.std.specs.Int.{w64};
 ghost use Rattle.csv.specs.Writing.{default_writer, fields_written, has_written, row_text, text_written, writer_setup};
-ghost use Rattle.tn_answer.specs.Rows.{IsBetweenRows, buyer_text, deal_head, deal_row, firm_head, firm_row, is_listed, is_nothing, price_head, price_row, range_head, range_row, rows_text, seller_text, table};
+ghost use Rattle.tn_answer.specs.Cells.{IsShortCell, cell_text, on_text};
+ghost use Rattle.tn_answer.specs.Rows.{IsBetweenRows, buyer_text, deal_head, deal_row, firm_head, firm_row, is_listed, is_nothing, price_head, price_row, range_head, range_row, rows_text, seller_text, table, units_of};
+ghost use Rattle.tn_names.specs.Names.{NameLists};
 ghost use Rattle.tn_answer.specs.Sayable.{HasShortBounds, IsShortHolding};
 
 use crate::cells::{Cell, write_row};
@@ -15,7 +17,7 @@ use std::alloc::Global;
 use tn_base::OutOfMemory;
 use tn_model::{Prices, Range, Ranges, TradeEnds, Trades};
 use tn_names::Names;
-use tn_said::{Holding, Holdings};
+use tn_said::{Counts, Holding, Holdings};
 
 /// Whether a list has a number.
 fn is_listed(on: &Trades, k: usize) -> bool
@@ -27,6 +29,33 @@ fn is_listed(on: &Trades, k: usize) -> bool
         }
     }
     false
+}
+
+/// How many units of a trade go, 0 where no count is there.
+fn units_at(counts: &Counts, k: usize) -> u32
+    ensures { result ≡ units_of counts.now k }
+{
+    if k < counts.len() { counts.at(k) } else { 0 }
+}
+
+/// What the column `on` says of each trade.
+#[derive(Clone, Copy)]
+pub(crate) enum OnColumn<'a> {
+    /// Whether it is one of these.
+    Flags(&'a Trades),
+    /// How many units of it go.
+    Units(&'a Counts),
+}
+
+/// The field of the column `on` in the row of a trade.
+fn on_cell<'a>(on: OnColumn<'a>, k: usize) -> Cell<'a>
+    ensures short { IsShortCell result }
+    ensures text { (names : NameLists) → cell_text names result ≡ on_text on.entry k }
+{
+    match on {
+        OnColumn::Flags(trades) => Cell::Flag(is_listed(trades, k)),
+        OnColumn::Units(counts) => Cell::Natural(units_at(counts, k)),
+    }
 }
 
 /// Whether a gain is there and is nothing.
@@ -62,11 +91,11 @@ fn buyer_at<'a>(names: &'a Names, ends: &TradeEnds, k: usize) -> &'a str
 }
 
 /// Writes the row of a trade with its price.
-fn write_price(
+fn write_price<'a>(
     alloc: Global,
     writer: &mut Writer<Vec<u8>>,
-    names: &Names,
-    on: &Trades,
+    names: &'a Names,
+    on: OnColumn<'a>,
     k: usize,
     price: i128,
 ) -> Result<(), OutOfMemory>
@@ -76,29 +105,30 @@ fn write_price(
         (fields_written writer.old) (has_written writer.old) text
         → OnOk result (IsBetweenRows (text_written (λ v. Some v.items) writer.new) (writer_setup writer.new)
         (fields_written writer.new) (has_written writer.new)
-        (text ++ row_text default_writer (price_row names.now on.now k price))) }
+        (text ++ row_text default_writer (price_row names.now (on_text on.entry) k price))) }
 {
     let row = [
         Cell::Name(name_at(names, k)),
-        Cell::Flag(is_listed(on, k)),
+        on_cell(on, k),
         Cell::Number(price),
     ];
     write_row(alloc, writer, names, &row)
 }
 
-/// The trades with their prices, and whether they are on.
+/// The trades with their prices, and what the column `on` says of them.
 #[derive(Clone, Copy)]
 struct PriceRows<'a> {
-    on: &'a Trades,
+    on: OnColumn<'a>,
     prices: &'a Prices,
 }
 
 impl Table for PriceRows<'_> {
     ghost use Rattle.std.specs.Prelude.{All, FitsSigned};
     ghost use Rattle.std.specs.Int.{w64};
+    ghost use Rattle.tn_answer.specs.Cells.{on_text};
     ghost use Rattle.tn_answer.specs.Rows.{each_from, price_row};
 
-    ghost rows = { λ names table. each_from (price_row names table.on.now) 0 table.prices.now };
+    ghost rows = { λ names table. each_from (price_row names (on_text table.on)) 0 table.prices.now };
 
     ghost IsShort = { λ table. All (FitsSigned w64) table.prices.now };
 
@@ -117,26 +147,27 @@ impl Table for PriceRows<'_> {
     }
 }
 
-/// Each trade with its price, and whether it is on.
+/// Each trade with its price, and what the column `on` says of it.
 pub(crate) fn price_rows<'a>(
     alloc: Global,
     names: &Names,
-    on: &'a Trades,
+    on: OnColumn<'a>,
     prices: &'a Prices,
 ) -> Result<Vec<u8>, OutOfMemory>
     requires { All (FitsSigned w64) prices.now }
-    ensures { IfOk result (λ text. text.items ≡ rows_text (table price_head (price_row names.now on.now) prices.now)) }
+    ensures { IfOk result
+        (λ text. text.items ≡ rows_text (table price_head (price_row names.now (on_text on.entry)) prices.now)) }
 {
     let head = [Cell::Name("trade"), Cell::Name("on"), Cell::Name("price")];
     table_text(alloc, names, &head, &PriceRows { on, prices })
 }
 
 /// Writes the row of a trade with its ends and its price.
-fn write_deal(
+fn write_deal<'a>(
     alloc: Global,
     writer: &mut Writer<Vec<u8>>,
-    names: &Names,
-    on: &Trades,
+    names: &'a Names,
+    on: OnColumn<'a>,
     ends: &TradeEnds,
     k: usize,
     price: i128,
@@ -147,13 +178,13 @@ fn write_deal(
         (fields_written writer.old) (has_written writer.old) text
         → OnOk result (IsBetweenRows (text_written (λ v. Some v.items) writer.new) (writer_setup writer.new)
         (fields_written writer.new) (has_written writer.new)
-        (text ++ row_text default_writer (deal_row names.now on.now ends.now k price))) }
+        (text ++ row_text default_writer (deal_row names.now (on_text on.entry) ends.now k price))) }
 {
     let row = [
         Cell::Name(name_at(names, k)),
         Cell::Name(seller_at(names, ends, k)),
         Cell::Name(buyer_at(names, ends, k)),
-        Cell::Flag(is_listed(on, k)),
+        on_cell(on, k),
         Cell::Number(price),
     ];
     write_row(alloc, writer, names, &row)
@@ -162,7 +193,7 @@ fn write_deal(
 /// The same with who sells and who buys.
 #[derive(Clone, Copy)]
 struct DealRows<'a> {
-    on: &'a Trades,
+    on: OnColumn<'a>,
     prices: &'a Prices,
     ends: &'a TradeEnds,
 }
@@ -170,9 +201,10 @@ struct DealRows<'a> {
 impl Table for DealRows<'_> {
     ghost use Rattle.std.specs.Prelude.{All, FitsSigned};
     ghost use Rattle.std.specs.Int.{w64};
+    ghost use Rattle.tn_answer.specs.Cells.{on_text};
     ghost use Rattle.tn_answer.specs.Rows.{deal_row, each_from};
 
-    ghost rows = { λ names table. each_from (deal_row names table.on.now table.ends.now) 0 table.prices.now };
+    ghost rows = { λ names table. each_from (deal_row names (on_text table.on) table.ends.now) 0 table.prices.now };
 
     ghost IsShort = { λ table. All (FitsSigned w64) table.prices.now };
 
@@ -203,13 +235,13 @@ impl Table for DealRows<'_> {
 pub(crate) fn deal_rows<'a>(
     alloc: Global,
     names: &Names,
-    on: &'a Trades,
+    on: OnColumn<'a>,
     prices: &'a Prices,
     ends: &'a TradeEnds,
 ) -> Result<Vec<u8>, OutOfMemory>
     requires { All (FitsSigned w64) prices.now }
     ensures { IfOk result (λ text. text.items ≡ rows_text
-        (table deal_head (deal_row names.now on.now ends.now) prices.now)) }
+        (table deal_head (deal_row names.now (on_text on.entry) ends.now) prices.now)) }
 {
     let head = [
         Cell::Name("trade"),

@@ -9,7 +9,7 @@ ghost use Rattle.tn_answer.specs.Sayable.{IsSayable};
 
 use crate::layout::Layout;
 use crate::pages::page_lines;
-use crate::rows::{deal_rows, firm_rows, price_rows, range_rows};
+use crate::rows::{OnColumn, deal_rows, firm_rows, price_rows, range_rows};
 use crate::values::answer_value;
 use std::alloc::Global;
 use tn_base::OutOfMemory;
@@ -54,8 +54,13 @@ fn text_in_rows(alloc: Global, names: &Names, said: &Said) -> Result<Vec<u8>, Ou
         (λ text. text.items ≡ text_of (answer_table names.now said.now Layout.Rows) (answer_form names.now said.now)) }
 {
     match said {
-        Said::Solved { on, prices, .. } => price_rows(alloc, names, on, prices),
-        Said::Supported { on, prices, ends } => deal_rows(alloc, names, on, prices, ends),
+        Said::Solved { on, prices, .. } => price_rows(alloc, names, OnColumn::Flags(on), prices),
+        Said::SolvedByCounts { counts, prices, .. } => {
+            price_rows(alloc, names, OnColumn::Units(counts), prices)
+        }
+        Said::Supported { on, prices, ends } => {
+            deal_rows(alloc, names, OnColumn::Flags(on), prices, ends)
+        }
         Said::Ranges { on, ranges, ends } => range_rows(alloc, names, on, ranges, ends),
         Said::Firms { firms, .. } => firm_rows(alloc, names, firms),
         said => object_text(alloc, names, said),
@@ -75,7 +80,13 @@ fn text_in_wide_rows(alloc: Global, names: &Names, said: &Said) -> Result<Vec<u8
             prices,
             ends,
             ..
-        } => deal_rows(alloc, names, on, prices, ends),
+        } => deal_rows(alloc, names, OnColumn::Flags(on), prices, ends),
+        Said::SolvedByCounts {
+            counts,
+            prices,
+            ends,
+            ..
+        } => deal_rows(alloc, names, OnColumn::Units(counts), prices, ends),
         said => object_text(alloc, names, said),
     }
 }

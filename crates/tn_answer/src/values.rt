@@ -19,7 +19,7 @@ use serde_json::{Value, json};
 use std::alloc::{AllocError, Global};
 use tn_model::{Contracts, Nodes, Prices, Ranges, Trades};
 use tn_names::Names;
-use tn_said::{Fault, Numbers, Place, PlaceStep, Said, Shown, States};
+use tn_said::{Counts, Fault, Numbers, Place, PlaceStep, Said, Shown, States};
 
 pub(crate) fn answer_value(alloc: Global, names: &Names, said: &Said) -> Result<Value, AllocError>
     requires { IsSayable said.now }
@@ -45,6 +45,12 @@ pub(crate) fn answer_value(alloc: Global, names: &Names, said: &Said) -> Result<
             surplus,
             ..
         } => solved_value(alloc, names, on, prices, *surplus),
+        Said::SolvedByCounts {
+            counts,
+            prices,
+            surplus,
+            ..
+        } => counted_value(alloc, names, counts, prices, *surplus),
         // (written as lines)
         Said::Page(_) => Ok(Value::Null),
         Said::Drill {
@@ -211,6 +217,26 @@ fn solved_value<'a>(
 {
     let fields = [
         ("on", Field::Trades(on)),
+        ("prices", Field::Prices(prices)),
+        ("surplus", Field::Number(surplus)),
+    ];
+    answer_of(alloc, names, "solved", &fields)
+}
+
+fn counted_value<'a>(
+    alloc: Global,
+    names: &Names,
+    counts: &'a Counts,
+    prices: &'a Prices,
+    surplus: i128,
+) -> Result<Value, AllocError>
+    requires prices { All (FitsSigned w64) prices.now }
+    requires surplus { FitsSigned w64 surplus }
+    ensures { IfOk result
+        (λ value. view value ≡ answer_data names.now (Said.SolvedByCounts counts.now prices.now surplus [])) }
+{
+    let fields = [
+        ("on", Field::Counts(counts)),
         ("prices", Field::Prices(prices)),
         ("surplus", Field::Number(surplus)),
     ];

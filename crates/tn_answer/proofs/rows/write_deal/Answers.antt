@@ -5,16 +5,17 @@ use Rattle.std.specs.Fmt.{signed_decimal}
 use Rattle.std.proofs.lemmas.Int.{to_z-of_z}
 use mir.Syntax.{w128}
 use Rattle.csv.specs.Writing.{default_writer, fields_written, has_written, row_text, text_written, writer_setup}
-use Rattle.tn_answer.specs.Rows.{IsBetweenRows, deal_row, flag_text}
+use Rattle.tn_answer.specs.Cells.{cell_text, on_text}
+use Rattle.tn_answer.specs.Rows.{IsBetweenRows, deal_row}
 use Rattle.tn_answer.proofs.rows.write_deal.Goals as goal
 
 pub returns : goal.returns
 returns c = λ text before.
     let written = c.write_row.new.writer in
-    let same : c.name_at.result.now ∷ c.seller_at.result.now ∷ c.buyer_at.result.now ∷ flag_text c.is_listed.result ∷
+    let same : c.name_at.result.now ∷ c.seller_at.result.now ∷ c.buyer_at.result.now ∷ cell_text c.args.names.now c.on_cell.result ∷
     signed_decimal (to_z w128 (of_z w128 c.args.price)) ∷ []
-    ≡ deal_row c.args.names.now c.args.on.now c.args.ends.now c.args.k c.args.price =
-    λ j. c.name_at.ensures j ∷ c.seller_at.ensures j ∷ c.buyer_at.ensures j ∷ flag_text (c.is_listed.ensures j) ∷
+    ≡ deal_row c.args.names.now (on_text c.args.on) c.args.ends.now c.args.k c.args.price =
+    λ j. c.name_at.ensures j ∷ c.seller_at.ensures j ∷ c.buyer_at.ensures j ∷ c.on_cell.ensures.text c.args.names.now j ∷
     signed_decimal (to_z-of_z w128 c.args.price c.ranges.price j) ∷ [] in
     subst (λ (row : List (List ℕ)). OnOk c.write_row.result
     (IsBetweenRows (text_written (λ v. Some v.items) written) (writer_setup written) (fields_written written)

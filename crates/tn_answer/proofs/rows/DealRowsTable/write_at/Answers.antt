@@ -3,6 +3,7 @@ use Rattle.std.proofs.Common.{sym, subst, ap, ◌∙◌, arith, FitsSigned}
 use Rattle.std.specs.Int.{w64}
 use Rattle.std.proofs.lemmas.Int.{to_z-of_z}
 use mir.Syntax.{w128}
+use Rattle.tn_answer.specs.Cells.{on_text}
 use Rattle.tn_answer.specs.Rows.{deal_row}
 use Rattle.tn_answer.proofs.EachLemmas.{each-is, each-length}
 use Rattle.tn_answer.proofs.FitLemmas.{all-there, fits, wide}
@@ -10,7 +11,7 @@ use Rattle.tn_answer.proofs.rows.DealRowsTable.write_at.Goals as goal
 
 pub at-requires : goal.at-requires
 at-requires c =
-    let counted = each-length (deal_row c.args.names.now c.args.self.now.on.now c.args.self.now.ends.now) 0
+    let counted = each-length (deal_row c.args.names.now (on_text c.args.self.now.on) c.args.self.now.ends.now) 0
     c.args.self.now.prices.now in
     omega (arith, counted)
 
@@ -22,9 +23,9 @@ write_deal-requires c =
 
 pub returns : goal.returns
 returns c = λ text row there before.
-    let same = ap (deal_row c.args.names.now c.args.self.now.on.now c.args.self.now.ends.now c.args.k) (to_z-of_z w128
+    let same = ap (deal_row c.args.names.now (on_text c.args.self.now.on) c.args.self.now.ends.now c.args.k) (to_z-of_z w128
     c.at.result
     (fits c.args.self.now.prices.now c.args.k c.at.result c.requires.short c.at.ensures))
-    ∙ each-is (deal_row c.args.names.now c.args.self.now.on.now c.args.self.now.ends.now) c.args.self.now.prices.now
+    ∙ each-is (deal_row c.args.names.now (on_text c.args.self.now.on) c.args.self.now.ends.now) c.args.self.now.prices.now
     c.args.k c.at.result row c.at.ensures there in
     rw (← same) (c.write_deal.ensures text before)
