@@ -9,7 +9,7 @@ use Rattle.json.specs.Print.{escape, escape_byte, escape_letter, quoted}
 use Rattle.serde_json.specs.Data.{Data, Items, Members, Num, array, boolean, float, item, member, negative, no_items, no_members, null, number, object, string, unsigned}
 use Rattle.serde_json.specs.Written.{comma_if, compact_text, items_text, members_text, number_text}
 use Rattle.tn_said.specs.declared.said.Said.{Said}
-use Rattle.tn_said.specs.declared.said.Said.TheVariants.{Usage, ReadFault, NoMemory, Fault, Equilibrium, Better, Impossible, Accepted, ExchangeFails, Supported, Cycle, Solved, Drill, Ranges, Session, Drops, Completes, Blocks, Valid, Invalid, Cases, Page, Firms}
+use Rattle.tn_said.specs.declared.said.Said.TheVariants.{Usage, ReadFault, NoMemory, Fault, Equilibrium, Better, Impossible, Accepted, ExchangeFails, Supported, Cycle, Solved, SolvedByCounts, Drill, Ranges, Session, Drops, Completes, Blocks, Valid, Invalid, Cases, Page, Firms}
 use Rattle.tn_names.specs.Names.{NameLists}
 use Rattle.tn_answer.specs.AnswerText.{answer_data, answer_form, answer_line, answer_table, form_text, text_of}
 use Rattle.tn_answer.specs.declared.layout.Layout.{Layout}
@@ -101,7 +101,7 @@ onto_unbroken (suc k) n bytes so_far =
     let more = both_true (is_other (digit_glyph false (n % 10))) (is_unbroken bytes) (digit_other (n % 10)) so_far in
     either_unbroken (n / 10 == 0) _ _ more (onto_unbroken k (n / 10) (digit_glyph false (n % 10) ∷ bytes) more)
 
-decimal_unbroken : (n : ℕ) → is_unbroken (decimal n) ≡ true
+pub decimal_unbroken : (n : ℕ) → is_unbroken (decimal n) ≡ true
 unfolding digits
 decimal_unbroken n = onto_unbroken 64 n [] refl
 
@@ -172,6 +172,8 @@ form_line names (ExchangeFails firm x y at) other = value_line (answer_data name
 form_line names (Supported on prices ends) other = value_line (answer_data names (Supported on prices ends))
 form_line names (Cycle nodes cost) other = value_line (answer_data names (Cycle nodes cost))
 form_line names (Solved on prices surplus ends) other = value_line (answer_data names (Solved on prices surplus ends))
+form_line names (SolvedByCounts counts prices surplus ends) other =
+    value_line (answer_data names (SolvedByCounts counts prices surplus ends))
 form_line names (Drill size start firms surplus) other = value_line (answer_data names (Drill size start firms surplus))
 form_line names (Ranges on ranges ends) other = value_line (answer_data names (Ranges on ranges ends))
 form_line names (Session edits) other = value_line (answer_data names (Session edits))
@@ -197,6 +199,7 @@ object_has_no_rows names (ExchangeFails firm x y at) = refl
 object_has_no_rows names (Supported on prices ends) = refl
 object_has_no_rows names (Cycle nodes cost) = refl
 object_has_no_rows names (Solved on prices surplus ends) = refl
+object_has_no_rows names (SolvedByCounts counts prices surplus ends) = refl
 object_has_no_rows names (Drill size start firms surplus) = refl
 object_has_no_rows names (Ranges on ranges ends) = refl
 object_has_no_rows names (Session edits) = refl

@@ -10,14 +10,14 @@ use Rattle.tn_model.specs.declared.ends.Ends.{Ends}
 use Rattle.tn_model.specs.declared.range.Range.{Range}
 use Rattle.tn_said.specs.declared.holding.Holding.{Holding}
 use Rattle.tn_said.specs.declared.said.Said.{Said}
-use Rattle.tn_said.specs.declared.said.Said.TheVariants.{Usage, ReadFault, NoMemory, Fault, Equilibrium, Better, Impossible, Accepted, ExchangeFails, Supported, Cycle, Solved, Drill, Ranges, Session, Drops, Completes, Blocks, Valid, Invalid, Cases, Page, Firms}
+use Rattle.tn_said.specs.declared.said.Said.TheVariants.{Usage, ReadFault, NoMemory, Fault, Equilibrium, Better, Impossible, Accepted, ExchangeFails, Supported, Cycle, Solved, SolvedByCounts, Drill, Ranges, Session, Drops, Completes, Blocks, Valid, Invalid, Cases, Page, Firms}
 use Rattle.tn_names.specs.Names.{IsNameList, NameLists, is_between, is_name_byte, most_letters}
 use Rattle.tn_answer.specs.AnswerText.{answer_form, answer_line, answer_table, text_of}
-use Rattle.tn_answer.specs.Rows.{bound_text, bundle_text, buyer_text, deal_row, each_from, firm_row, flag_text, is_listed, is_nothing, name_text, price_row, range_row, rows_text, seller_text}
+use Rattle.tn_answer.specs.Rows.{bound_text, bundle_text, buyer_text, deal_row, each_from, firm_row, flag_text, is_listed, is_nothing, name_text, on_flags, on_units, price_row, range_row, rows_text, seller_text, units_of}
 use Rattle.tn_answer.specs.declared.layout.Layout.{Layout}
 use Rattle.tn_answer.specs.declared.layout.Layout.TheVariants.{Object, Rows, WideRows}
 use Rattle.tn_format_laws.specs.Lines.{AreLines, RowsAreLines}
-use Rattle.tn_format_laws.proofs.LineLemmas.{all_other, append_unbroken, both_true, each_true, either_unbroken, is_other, is_unbroken, signed_unbroken}
+use Rattle.tn_format_laws.proofs.LineLemmas.{all_other, append_unbroken, both_true, decimal_unbroken, each_true, either_unbroken, is_other, is_unbroken, signed_unbroken}
 
 abbrev are_unbroken : List (List ℕ) → Bool
 are_unbroken fields = list_all is_unbroken fields
@@ -107,6 +107,16 @@ flag_unbroken : (flag : Bool) → is_unbroken (flag_text flag) ≡ true
 flag_unbroken true = refl
 flag_unbroken false = refl
 
+-- the fields of a column
+abbrev IsUnbrokenColumn : (ℕ → List ℕ) → Type 0
+IsUnbrokenColumn column = (k : ℕ) → is_unbroken (column k) ≡ true
+
+flags_unbroken : (on : List ℕ) → IsUnbrokenColumn (on_flags on)
+flags_unbroken on k = flag_unbroken (is_listed on k)
+
+units_unbroken : (counts : List ℕ) → IsUnbrokenColumn (on_units counts)
+units_unbroken counts k = decimal_unbroken (units_of counts k)
+
 bound_unbroken : (bound : Option ℤ) → is_unbroken (bound_text bound) ≡ true
 bound_unbroken None = refl
 bound_unbroken (Some z) = signed_unbroken z
@@ -156,34 +166,36 @@ HasUnbrokenRows None = Unit {0}
 HasUnbrokenRows (Some rows) = list_all are_unbroken rows ≡ true
 
 module _ (names : NameLists) (firms : IsNameList names.firms) (trades : IsNameList names.trades) where
-  price_unbroken : (on : List ℕ) (k : ℕ) (price : ℤ) → are_unbroken (price_row names on k price) ≡ true
-  price_unbroken on k price =
+  price_unbroken : (on : ℕ → List ℕ) → IsUnbrokenColumn on → (k : ℕ) (price : ℤ)
+      → are_unbroken (price_row names on k price) ≡ true
+  price_unbroken on column k price =
       both_true (is_unbroken (name_text names.trades k)) _ (name_unbroken names.trades trades k)
-      (both_true (is_unbroken (flag_text (is_listed on k))) _ (flag_unbroken (is_listed on k))
+      (both_true (is_unbroken (on k)) _ (column k)
       (both_true (is_unbroken (signed_decimal price)) true (signed_unbroken price) refl))
 
   -- the fields that deals and ranges begin with
-  ends_unbroken : (on : List ℕ) (ends : List Ends) (k : ℕ) (rest : List (List ℕ)) → are_unbroken rest ≡ true
+  ends_unbroken : (on : ℕ → List ℕ) → IsUnbrokenColumn on → (ends : List Ends) (k : ℕ) (rest : List (List ℕ))
+      → are_unbroken rest ≡ true
       → are_unbroken (name_text names.trades k ∷ seller_text names.firms (slice_get ends k)
-      ∷ buyer_text names.firms (slice_get ends k) ∷ flag_text (is_listed on k) ∷ rest) ≡ true
-  ends_unbroken on ends k rest later =
+      ∷ buyer_text names.firms (slice_get ends k) ∷ on k ∷ rest) ≡ true
+  ends_unbroken on column ends k rest later =
       both_true (is_unbroken (name_text names.trades k)) _ (name_unbroken names.trades trades k)
       (both_true (is_unbroken (seller_text names.firms (slice_get ends k))) _
       (seller_unbroken names.firms firms (slice_get ends k))
       (both_true (is_unbroken (buyer_text names.firms (slice_get ends k))) _
       (buyer_unbroken names.firms firms (slice_get ends k))
-      (both_true (is_unbroken (flag_text (is_listed on k))) _ (flag_unbroken (is_listed on k)) later)))
+      (both_true (is_unbroken (on k)) _ (column k) later)))
 
-  deal_unbroken : (on : List ℕ) (ends : List Ends) (k : ℕ) (price : ℤ)
+  deal_unbroken : (on : ℕ → List ℕ) → IsUnbrokenColumn on → (ends : List Ends) (k : ℕ) (price : ℤ)
       → are_unbroken (deal_row names on ends k price) ≡ true
-  deal_unbroken on ends k price =
-      ends_unbroken on ends k (signed_decimal price ∷ [])
+  deal_unbroken on column ends k price =
+      ends_unbroken on column ends k (signed_decimal price ∷ [])
       (both_true (is_unbroken (signed_decimal price)) true (signed_unbroken price) refl)
 
   range_unbroken : (on : List ℕ) (ends : List Ends) (k : ℕ) (range : Range)
       → are_unbroken (range_row names on ends k range) ≡ true
   range_unbroken on ends k range =
-      ends_unbroken on ends k (bound_text range.low ∷ bound_text range.high ∷ [])
+      ends_unbroken (on_flags on) (flags_unbroken on) ends k (bound_text range.low ∷ bound_text range.high ∷ [])
       (both_true (is_unbroken (bound_text range.low)) _ (bound_unbroken range.low)
       (both_true (is_unbroken (bound_text range.high)) true (bound_unbroken range.high) refl))
 
@@ -212,14 +224,21 @@ module _ (names : NameLists) (firms : IsNameList names.firms) (trades : IsNameLi
   table_unbroken (ExchangeFails firm x y at) layout = tt
   table_unbroken (Supported on prices ends) Object = tt
   table_unbroken (Supported on prices ends) Rows =
-      each_row_unbroken (deal_row names on ends) (deal_unbroken on ends) 0 prices
+      each_row_unbroken (deal_row names (on_flags on) ends) (deal_unbroken (on_flags on) (flags_unbroken on) ends) 0 prices
   table_unbroken (Supported on prices ends) WideRows = tt
   table_unbroken (Cycle nodes cost) layout = tt
   table_unbroken (Solved on prices surplus ends) Object = tt
   table_unbroken (Solved on prices surplus ends) Rows =
-      each_row_unbroken (price_row names on) (price_unbroken on) 0 prices
+      each_row_unbroken (price_row names (on_flags on)) (price_unbroken (on_flags on) (flags_unbroken on)) 0 prices
   table_unbroken (Solved on prices surplus ends) WideRows =
-      each_row_unbroken (deal_row names on ends) (deal_unbroken on ends) 0 prices
+      each_row_unbroken (deal_row names (on_flags on) ends) (deal_unbroken (on_flags on) (flags_unbroken on) ends) 0 prices
+  table_unbroken (SolvedByCounts counts prices surplus ends) Object = tt
+  table_unbroken (SolvedByCounts counts prices surplus ends) Rows =
+      each_row_unbroken (price_row names (on_units counts)) (price_unbroken (on_units counts) (units_unbroken counts)) 0
+      prices
+  table_unbroken (SolvedByCounts counts prices surplus ends) WideRows =
+      each_row_unbroken (deal_row names (on_units counts) ends)
+      (deal_unbroken (on_units counts) (units_unbroken counts) ends) 0 prices
   table_unbroken (Drill size start firms surplus) layout = tt
   table_unbroken (Ranges on ranges ends) Object = tt
   table_unbroken (Ranges on ranges ends) Rows =

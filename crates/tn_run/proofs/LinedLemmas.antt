@@ -8,7 +8,7 @@ use Rattle.std.proofs.lemmas.List.Concat.{flat_map-append}
 use Rattle.std.proofs.lemmas.List.Elements.{All-push}
 use Rattle.std.proofs.lemmas.List.Folds.{list_any-append}
 use Rattle.tn_said.specs.declared.said.Said.{Said}
-use Rattle.tn_said.specs.declared.said.Said.TheVariants.{Usage, ReadFault, NoMemory, Fault, Equilibrium, Better, Impossible, Accepted, ExchangeFails, Supported, Cycle, Solved, Drill, Ranges, Session, Drops, Completes, Blocks, Valid, Invalid, Cases, Page as PageIs, Firms}
+use Rattle.tn_said.specs.declared.said.Said.TheVariants.{Usage, ReadFault, NoMemory, Fault, Equilibrium, Better, Impossible, Accepted, ExchangeFails, Supported, Cycle, Solved, SolvedByCounts, Drill, Ranges, Session, Drops, Completes, Blocks, Valid, Invalid, Cases, Page as PageIs, Firms}
 use Rattle.tn_names.specs.Names.{NameLists, no_names}
 use Rattle.tn_answer.specs.AnswerText.{answer_line}
 use Rattle.tn_answer.specs.Kept.{IsWithinClaims}
@@ -231,6 +231,7 @@ never_failed (ExchangeFails firm x y at) is = absurd (omega (arith, is))
 never_failed (Supported on prices ends) is = absurd (omega (arith, is))
 never_failed (Cycle nodes cost) is = absurd (omega (arith, is))
 never_failed (Solved on prices surplus ends) is = absurd (omega (arith, is))
+never_failed (SolvedByCounts counts prices surplus ends) is = absurd (omega (arith, is))
 never_failed (Drill size start firms surplus) is = absurd (omega (arith, is))
 never_failed (Ranges on ranges ends) is = absurd (omega (arith, is))
 never_failed (Session edits) is = absurd (omega (arith, is))

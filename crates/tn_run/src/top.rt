@@ -59,6 +59,7 @@ pub fn status_of(said: &Said) -> Status
         | Said::Accepted
         | Said::Supported { .. }
         | Said::Solved { .. }
+        | Said::SolvedByCounts { .. }
         | Said::Drill { .. }
         | Said::Ranges { .. }
         | Said::Session { .. }
