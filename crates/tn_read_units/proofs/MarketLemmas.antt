@@ -13,12 +13,11 @@ use Rattle.tn_base.specs.Arcs.{IsAtMost}
 use Rattle.tn_base.specs.Options.{both}
 use Rattle.tn_base.specs.Sets.{has, size}
 use Rattle.tn_links.specs.Links.{AreFalling, room}
-use Rattle.tn_links.specs.Widths.{most_units}
 use Rattle.tn_links.specs.declared.link.Step.{Step}
 use Rattle.tn_counts.specs.Counts.{AreCounts, CountFirm, trade_at}
 use Rattle.tn_counts.specs.Laminar.{amount_sum, firm_of, set_sum}
 use Rattle.tn_counts.specs.Markets.{AreBetween, AreCountSets, AreLaminar, AreSmallAmounts, HaveSmallAmounts, HaveSmallSteps, IsBetween, IsCountSet, IsUnitMarket}
-use Rattle.tn_counts.specs.Widths.{most_market_units, most_unit_amount, most_unit_trades}
+use Rattle.tn_counts.specs.Widths.{most_market_units, most_set_units, most_unit_amount, most_unit_trades}
 use Rattle.tn_counts.specs.declared.market.UnitMarket.{UnitMarket}
 use Rattle.tn_counts.specs.declared.set.CountSet.{CountSet}
 use Rattle.tn_counts.specs.declared.trade.UnitAmounts.{UnitAmounts}
@@ -103,7 +102,7 @@ firm_from trades first (written ∷ firms) (suc f) firm is =
 record IsPlacedWell (firms : ℕ) (set : PlacedSet) : Type 0 where
   known : set.firm < firms
   around : set.back ≤ room set.steps
-  few : room set.steps ≤ most_units
+  few : room set.steps ≤ most_set_units
   concave : AreFalling set.steps
   small : HaveSmallSteps set.steps
   constant : IsAtMost set.constant most_unit_amount

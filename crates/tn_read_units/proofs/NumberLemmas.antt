@@ -8,8 +8,7 @@ use Rattle.std.proofs.lemmas.List.{length-map, map-append}
 use Rattle.std.proofs.lemmas.List.Elements.{All-append, All-cons, All-head, All-nil, All-tail, All-weaker}
 use Rattle.std.proofs.lemmas.Option.{none-some, same_Some, slice_get-get_or, slice_get-map, slice_get_past, slice_get_within}
 use Rattle.tn_base.specs.Arcs.{IsAtMost}
-use Rattle.tn_links.specs.Widths.{most_units}
-use Rattle.tn_counts.specs.Widths.{most_market_units, most_unit_amount}
+use Rattle.tn_counts.specs.Widths.{most_market_units, most_set_units, most_unit_amount}
 use Rattle.tn_links.specs.Links.{AreFalling, rise, room}
 use Rattle.tn_links.specs.declared.link.Step.{Step}
 use Rattle.tn_read_units.specs.Checks.{steps_after}
@@ -292,7 +291,7 @@ around-first None bought sold most around =
 
 -- how many units there are at most, and how much each adds
 pub room_few : (numbers : Option SetNumbers) (bought sold : List Step) → IfSome numbers AreAroundNone
-    → room (placed_steps numbers bought sold) ≤ most_units
+    → room (placed_steps numbers bought sold) ≤ most_set_units
 room_few (Some set) bought sold around = omega (arith, room-numbers set.numbers, around.are.few)
 room_few None bought sold around =
     omega (arith, room-joined (first_units most_market_units bought) (first_units most_market_units sold),
