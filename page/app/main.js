@@ -18,7 +18,7 @@ import {readyTogether, showTogether} from "./network/together.js";
 import {readyTrades, showTrades, typePrice} from "./network/trades.js";
 import {Ended, inText, NoAnswerCame, Program} from "./program/ask.js";
 import {Guesses} from "./program/guess.js";
-import {compiled, partOf} from "./program/parts.js";
+import {compiled, documentsIn, partOf} from "./program/parts.js";
 import {bytesIn, isDocument, resultsIn} from "./sharing/link.js";
 import {bind} from "./shell/controls.js";
 import {bindHelp} from "./shell/help.js";
@@ -93,12 +93,6 @@ async function openAddress(other) {
     return undefined;
 }
 
-/** The examples in their groups; what stands often in them is a short letter each. */
-function documentsOf([short, groups]) {
-    const whole = (text) => short.reduce((longer, [letter, words]) => longer.replaceAll(letter, words), text);
-    return groups.map(([group, members]) => [group, members.map(([name, text]) => [name, whole(text)])]);
-}
-
 function show(value) {
     showLesson(value);
     showShell(value);
@@ -126,7 +120,7 @@ async function start() {
         document.documentElement.dataset.violation = `${violatedDirective} ${blockedURI}`;
     });
     const module = await compiled(), [program, guesser, tracer, marker] = [1, 2, 3, 4].map(() => new Program(module, partOf("worker")));
-    const documents = documentsOf(JSON.parse(partOf("documents")));
+    const documents = await documentsIn();
     readyEditor(store);
     readyTrades(store);
     readyTogether(store);

@@ -1,17 +1,22 @@
-// What the page carries beside its script: the program, the text of its worker, and an example.
+// What the page carries beside its script: the program, the text of its worker, and the examples.
 
 /** The text of a part of the page. */
 export function partOf(id) {
     return document.getElementById(id).textContent;
 }
 
-/** The bytes of a part that stands there in letters. */
-function bytesOf(id) {
-    return Uint8Array.from(atob(partOf(id)), (letter) => letter.charCodeAt(0));
+/** What a part holds that stands there packed, and in letters. */
+function unpacked(id) {
+    const bytes = Uint8Array.from(atob(partOf(id)), (letter) => letter.charCodeAt(0));
+    return new Response(new Blob([bytes]).stream().pipeThrough(new DecompressionStream("gzip")));
 }
 
 /** The compiled program. */
 export async function compiled() {
-    const unpacked = new Blob([bytesOf("program")]).stream().pipeThrough(new DecompressionStream("gzip"));
-    return WebAssembly.compile(await new Response(unpacked).arrayBuffer());
+    return WebAssembly.compile(await unpacked("program").arrayBuffer());
+}
+
+/** The examples in their groups, each with its name and its text. */
+export function documentsIn() {
+    return unpacked("documents").json();
 }
