@@ -47,7 +47,7 @@ function numbersOf(list) {
 }
 
 /** Numbers from the least to the greatest, once where they are one. */
-function extentOf(numbers) {
+export function extentOf(numbers) {
     const low = numbers.reduce((least, each) => (each < least ? each : least)), high = numbers.reduce((most, each) => (each > most ? each : most));
     if (low === high) return String(low);
     return low < 0n ? say("extent.from_to", {low, high}) : `${low}\u2013${high}`;

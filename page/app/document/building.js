@@ -58,22 +58,9 @@ export function freeName(names, first, ending) {
     }
 }
 
-/** The edits that add a firm, of a kind for which all trades are worth nothing yet. */
-export function firmAdded(network, name) {
-    return another(network, "firms", `{"name":${JSON.stringify(name)},${MEMBERS.laminar}}`);
-}
-
-const MEMBERS = {
-    table: '"kind":"table","rows":[]', laminar: '"kind":"laminar","amounts":[],"sets":[]',
-    middleman: '"kind":"middleman","costs":[],"gains":[]', dealer: '"kind":"dealer","pairs":[]'};
-
-/** The edits that make a firm one of another kind, of which nothing is known yet but its name and note. */
-export function ofKind(network, firm, kind) {
-    const kept = ["name", "note"].filter((name) => firm.value.has(name)).map((name) => {
-        const {start, end} = firm.value.get(name);
-        return `${JSON.stringify(name)}:${network.text.slice(start, end)},`;
-    });
-    return replaced(firm, `{${kept.join("")}${MEMBERS[kind]}}`);
+/** The edits that add a firm by its text. */
+export function firmAdded(network, text) {
+    return another(network, "firms", text);
 }
 
 /** The edits that add a trade, with a price of 0 where others have one. */

@@ -15,7 +15,7 @@ const MOST_UNDONE = 400;
 
 /** How a document is looked at that was just opened. */
 const AT_FIRST = {isOver: false, hasRanges: false, hasReason: false, window: null, isWide: null, filter: "", firm: null,
-    sort: {by: null, isDown: false}, built: 0, ends: {}, asked: null};
+    sort: {by: null, isDown: false}, built: 0, ends: {}, asked: null, isFree: false};
 
 /**
  * The value. `document` is what is looked at, with the `exercise` as which it was opened and how often it was changed since, its `tries`;
@@ -76,7 +76,7 @@ export const ACTIONS = {
     undone: (value) => value.past.length === 0 ? value : moved(value, value.past, value.future, (past, future) => ({past, future})),
     redone: (value) => value.future.length === 0 ? value : moved(value, value.future, value.past, (future, past) => ({past, future})),
     /** A lane, a firm or a bound was chosen, or nothing. */
-    selected: (value, selection) => looked({...value, selection, mark: null}, selection?.kind === "firm" ? {built: placeOf(value, selection)} : {}),
+    selected: (value, selection) => looked({...value, selection, mark: null}, selection?.kind === "firm" ? {built: placeOf(value, selection), isFree: false} : {}),
     /** It is looked at in another way; a reason or an answer that comes over the network begins with nothing chosen. */
     looked: (value, view) => {
         const {selection} = value, isAnew = view.hasReason || view.isOver;

@@ -19,9 +19,9 @@ export function readyBuild(of) {
 export function showBuild(value) {
     const {document, view} = value;
     if (view.panel !== "build") return;
-    const {built, ends, asked} = view, isSame = (name) => shownOf[name] === {document, built, ends, asked}[name];
-    if (shownOf !== null && Object.keys(shownOf).every(isSame)) return;
-    shownOf = {document, built, ends, asked};
+    const {built, ends, asked, isFree} = view, now = {document, built, ends, asked, isFree};
+    if (shownOf !== null && Object.keys(now).every((name) => shownOf[name] === now[name])) return;
+    shownOf = now;
     const groups = document.isWhole ? formOf(networkOf(document), view) : [];
     write("build-says", groups.length > 0 ? "" : say(document.isWhole ? "build.no_object" : "build.too_long"));
     const list = groups.flatMap(({lines}) => lines.flatMap((line) => line.controls));
@@ -65,7 +65,8 @@ const FORMS = {name: textForm, number: textForm, choice: choiceForm, box: boxFor
 /** Puts something in: by edits, after which the page may be looked at in another way, or by such a look alone. */
 function enter(element, content, mark = null) {
     const {put, then, look} = controls.get(element.dataset.key);
-    if (look) return store.act("looked", look(content));
+    const seen = look?.(content) ?? null;
+    if (seen !== null) return store.act("looked", seen);
     store.act("edited", put(content), mark);
     if (then) store.act("looked", then);
 }

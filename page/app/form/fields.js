@@ -3,19 +3,14 @@
 import {limitsOf} from "../../read/limits.js";
 import {say} from "../../words/say.js";
 import {
-    firmAdded, firmRemoved, freeName, itemAdded, itemRemoved, itemsIn, moved, numbered, objectsIn, ofKind, renamed,
+    firmAdded, firmRemoved, freeName, itemAdded, itemRemoved, itemsIn, moved, numbered, objectsIn,
     stretched, textAt, toggled, tradeAdded, tradesRemoved,
 } from "../document/building.js";
 import {memberOf, put, replaced} from "../document/edits.js";
-import {wholeIn, whyNotWhole} from "../shell/whole.js";
+import {asTemplate, kindOf, ownTrades, settled, textOfNew, wouldLose} from "../document/kinds.js";
+import {doesOf, templateParts, templatesFor} from "./kinds.js";
 import {calledBy, shownName, whyNoName} from "./naming.js";
-
-/** The most digits of a number of a firm. */
-const MOST_DIGITS = 10;
-
-/** The kinds of firms, each with the key of what it is for. */
-const KINDS = [["table", "kind.table"], ["laminar", "kind.laminar"], ["middleman", "kind.middleman"],
-    ["dealer", "kind.dealer"]];
+import {between, box, button, choice, number} from "./parts.js";
 
 /** How many rows of a table, and beyond how many trades only those of the firm, are in the form. */
 const MOST_ROWS = 40, MOST_TRADES = 160;
@@ -24,32 +19,15 @@ const MOST_ROWS = 40, MOST_TRADES = 160;
  * The form of a document, as groups `{key, title, hint, lines}`; a line is `{key, says, controls}`. A control has a `key`, a
  * `kind`, what it `says`, its whole `name` for those who listen, its `value`, and `put`, which makes edits of what is put in.
  * It may have `read`, which answers what is put in, or null, with `why` it isn't right, and `then`, which is another view of the page after the change; one
- * with `look` in the place of `put` is such a view alone. `built` is the place of the firm that is shown, and `ends` are those
- * of a trade that is to be added.
+ * with `look`, which answers no null, is such a view alone. `built` is the place of the firm that is shown, `isFree` says whether its
+ * amounts and sets are though it is of a template, and `ends` are those of a trade that is to be added.
  */
-export function formOf(network, {built, ends, asked}) {
+export function formOf(network, {built, ends, asked, isFree = false}) {
     if (network.root.kind !== "object") return [];
     const firms = objectsIn(network, "firms"), names = firms.map(({name}) => name);
     const place = Math.min(built, firms.length - 1), here = firms[place];
-    const parts = here ? ofFirm(network, here, names, asked) : [];
+    const parts = here ? ofFirm(network, here, names, asked, isFree) : [];
     return [firmsGroup(network, names, place), ...parts, tradesGroup(network, names, here, ends)];
-}
-
-function button(key, says, name, change) {
-    return {key, kind: "button", says, name, put: change};
-}
-
-function box(key, says, name, value, change) {
-    return {key, kind: "box", says, name, value, put: change};
-}
-
-function number(key, says, name, value, change) {
-    return {key, kind: "number", says, name, value, read: (text) => wholeIn(text, MOST_DIGITS), why: (text) => whyNotWhole(text, MOST_DIGITS), put: change};
-}
-
-/** A choice, which makes a change, or another view of the page. */
-function choice(key, says, name, value, options, does) {
-    return {key, kind: "choice", says, name, value, options: options.map(([each, shown]) => ({value: each, says: shown})), ...does};
 }
 
 /** What a firm or trade is called, which can be changed. `keys` are of what it says, and of its whole name. */
@@ -59,45 +37,50 @@ function nameOf(key, keys, network, list, node, names) {
         why: (text) => whyNoName(text, others), put: (text) => calledBy(network, list, node, text, others)};
 }
 
+/** What may be added at once, each with the first letter of its name; other kinds are chosen then. */
+const ADDED = [["seller-one", "S", "form.add_seller"], ["buyer-one", "B", "form.add_buyer"], ["middleman", "M", "form.add_middleman"]];
+
+/** How another firm is looked at. */
+const ANEW = {ends: {}, isFree: false};
+
 function firmsGroup(network, names, place) {
-    const fresh = freeName(names, "F", String), options = names.map((name, k) => [`${k}`, name]);
-    const add = {...button("firm add", say("form.add_firm"), say("form.add_firm"), () => firmAdded(network, fresh)),
-        then: {built: names.length}};
+    const options = names.map((name, k) => [`${k}`, name]);
+    const add = ADDED.map(([template, letter, says]) => ({
+        ...button(`${template} add`, say(says), say(says), () => firmAdded(network, textOfNew(freeName(names, letter, String), template))),
+        then: {...ANEW, built: names.length}}));
     const pick = choice("firm", say("head.firm"), say("head.firm"), `${place}`, options,
-        {look: (built) => ({built: Number(built)})});
-    return {key: "firms", title: say("page.firms"), lines: [{key: "firms", controls: place < 0 ? [add] : [pick, add]}]};
+        {look: (built) => ({...ANEW, built: Number(built)})});
+    return {key: "firms", title: say("page.firms"), lines: [{key: "firms", controls: place < 0 ? add : [pick, ...add]}]};
 }
 
 /** The parts of the form that are of one firm. */
-function ofFirm(network, {node, name}, names, asked) {
-    const kind = textAt(node, "kind"), remove = () => firmRemoved(network, node), own = ownTrades(network, name);
+function ofFirm(network, {node, name}, names, asked, isFree) {
+    const known = kindOf(network, node), kind = isFree && known.numbers !== null ? {template: "laminar", numbers: null} : known, remove = () => firmRemoved(network, node), own = ownTrades(network, name);
     const head = [
         nameOf("firm name", ["head.name", "form.name_of"], network, "firms", node, names),
-        choice("firm kind", say("form.kind"), say("form.kind"), kind, KINDS.map(([each, says]) => [each, say(says)]),
-            hasNumbers(node) ? {look: (next) => ({asked: {kind: next, of: network.text}})} : {put: (next) => ofKind(network, node, next)}),
+        {...choice("firm kind", say("form.kind"), say("form.kind"), kind.template, templatesFor(own)), ...kindChosen(network, node, known)},
         button("firm out", say("form.remove_it"), say("form.remove_firm", {name}), remove)];
-    const hint = own.length === 0 ? say("form.no_trades") : "";
-    const parts = own.length === 0 ? [] : PARTS[kind]?.(network, node, own) ?? [];
-    const lines = [{key: "head", controls: head}, ...(asked?.of === network.text && asked.kind !== kind ? [askedLine(network, node, asked.kind)] : [])];
+    const hint = [doesOf(kind, own), ...(own.length === 0 ? [say("form.no_trades")] : [])].join(" ");
+    const ofFormat = own.length === 0 ? [] : PARTS[kind.template]?.(network, node, own) ?? [];
+    const parts = kind.numbers === null ? ofFormat : templateParts(network, node, own, kind);
+    const lines = [{key: "head", controls: head}, ...(asked?.of === network.text && asked.kind !== kind.template ? [askedLine(network, node, asked.kind)] : [])];
     return [{key: "firm", title: say("form.the_firm", {name}), hint, lines}, ...parts];
 }
 
-/** Whether something is said of a firm that another kind wouldn't keep. */
-function hasNumbers(firm) {
-    return ["rows", "amounts", "sets", "costs", "gains", "pairs"].some((list) => memberOf(firm, list, "list")?.value.length > 0) || firm.value.get("keep")?.kind === "number";
+/** Another kind changes the text at once, or is asked about, where numbers would be lost; amounts and sets of a template are only looked at. */
+function kindChosen(network, firm, known) {
+    const look = (next) => {
+        if (next === known.template || (next === "laminar" && known.numbers !== null)) return {isFree: next === "laminar"};
+        return wouldLose(network, firm, next) ? {asked: {kind: next, of: network.text}} : null;
+    };
+    return {look, put: (next) => asTemplate(network, firm, next), then: {isFree: false}};
 }
 
 /** Asks before a firm becomes one of another kind. */
 function askedLine(network, firm, kind) {
     const keep = {...button("kind keep", say("form.kind_keep"), say("form.kind_keep")), look: () => ({asked: null})};
     return {key: "asked", says: say("form.kind_asked"),
-        controls: [button("kind change", say("form.kind_change"), say("form.kind_change"), () => ofKind(network, firm, kind)), keep]};
-}
-
-/** The trades of a firm, each with whether it is a sale. */
-function ownTrades(network, firm) {
-    const all = objectsIn(network, "trades").map(({node, name}) => ({name, ends: [textAt(node, "seller"), textAt(node, "buyer")]}));
-    return all.filter(({ends}) => ends.includes(firm)).map(({name, ends: [seller]}) => ({name, isSale: seller === firm}));
+        controls: [button("kind change", say("form.kind_change"), say("form.kind_change"), () => asTemplate(network, firm, kind)), keep]};
 }
 
 const PARTS = {table: tableParts, laminar: laminarParts, middleman: middlemanParts, dealer: dealerParts};
@@ -198,12 +181,8 @@ function setGroup(network, firm, own, set, k) {
 /** The least and the greatest net count of a set; 0 stays between them. */
 function setEnds(network, set, k, from, to) {
     const {farthest} = limitsOf(network);
-    const end = (name, [says, whole], now, [least, most], change) => {
-        const field = number(`set ${k} ${name}`, say(says), say(whole, {set: k + 1}), `${now}`, (text) => change(Number(text)));
-        const isIn = (count) => least <= count && count <= most, inIt = (text) => text !== null && isIn(Number(text)) ? text : null;
-        return {...field, read: (text) => inIt(field.read(text)),
-            why: (text) => field.read(text) === null ? field.why(text) : say("number.between", {least, most})};
-    };
+    const end = (name, [says, whole], now, [least, most], change) =>
+        between(number(`set ${k} ${name}`, say(says), say(whole, {set: k + 1}), `${now}`, (text) => change(Number(text))), least, most);
     return [end("least", ["form.least", "form.least_of"], from, [-farthest, Math.min(0, to)],
         (count) => stretched(network, set, count, to)),
         end("greatest", ["form.greatest", "form.greatest_of"], to, [Math.max(0, from), farthest],
@@ -263,7 +242,7 @@ function tradeLine(network, {node, name}, k, names, all) {
     const options = names.map((each) => [each, each]);
     const end = (side, [says, whole]) => choice(`trade ${k} ${side}`, say(says), say(whole, {name}),
         textAt(node, side), options,
-        {put: (firm) => moved(network, node, side, firm)});
+        {put: (firm) => settled(network, moved(network, node, side, firm))});
     return {key: `trade ${k}`, controls: [
         nameOf(`trade ${k} name`, ["head.trade", "form.trade_of"], network, "trades", node, all),
         end("seller", ["form.from", "form.trade_from"]), end("buyer", ["form.to", "form.trade_to"]),
@@ -271,16 +250,27 @@ function tradeLine(network, {node, name}, k, names, all) {
             () => tradesRemoved(network, [node]))]};
 }
 
-/** What adds a trade: of the firm that is shown to the next one, where nobody has chosen others. */
+/** What adds a trade: where nobody has chosen its ends, of the firm that is shown with the next one with which it has none yet. */
 function newTrade(network, names, all, here, ends) {
     const isThere = (name) => names.includes(name), options = names.map((each) => [each, each]);
-    const seller = isThere(ends.seller) ? ends.seller : here.name, isOther = isThere(ends.buyer) && ends.buyer !== seller;
-    const buyer = isOther ? ends.buyer : names.find((name) => name !== seller);
+    const [seller, buyer] = likelyEnds(network, names, here, Object.fromEntries(Object.entries(ends).filter(([, name]) => isThere(name))));
     const name = freeName(all, `${seller}-${buyer}`.toLowerCase(), (k) => k === 1 ? "" : `-${k}`);
     const end = (side, [says, whole], value) => choice(`new ${side}`, say(says), say(whole), value, options,
         {look: (firm) => ({ends: {...ends, [side]: firm}})});
+    const add = button("trade add", say("form.add_trade"), say("form.add_trade"), () => settled(network, tradeAdded(network, name, seller, buyer)));
     return {key: "new", controls: [end("seller", ["form.from", "form.new_from"], seller),
-        end("buyer", ["form.to", "form.new_to"], buyer),
-        button("trade add", say("form.add_trade"), say("form.add_trade"),
-            () => tradeAdded(network, name, seller, buyer))]};
+        end("buyer", ["form.to", "form.new_to"], buyer), {...add, then: {ends: {}}}]};
+}
+
+/** The ends of a new trade: those that were chosen, and else a seller and a buyer that don't trade yet, one of them the firm that is shown. */
+function likelyEnds(network, names, here, {seller, buyer}) {
+    const kinds = new Map(objectsIn(network, "firms").map(({node, name}) => [name, kindOf(network, node).template]));
+    const may = (side, name) => !kinds.get(name).startsWith({seller: "buyer", buyer: "seller"}[side]);
+    const isNew = (from, to) => from !== to && !network.trades.some((trade) => trade.seller === from && trade.buyer === to);
+    const next = (side, isFree) => names.find((name) => may(side, name) && isFree(name));
+    if (seller !== undefined && buyer !== undefined && seller !== buyer) return [seller, buyer];
+    const isBuyer = seller === undefined && (buyer !== undefined || !may("seller", here.name));
+    if (isBuyer) return [next("seller", (name) => isNew(name, buyer ?? here.name)) ?? names.find((name) => name !== (buyer ?? here.name)), buyer ?? here.name];
+    const from = seller ?? here.name;
+    return [from, next("buyer", (name) => isNew(from, name)) ?? names.find((name) => name !== from)];
 }

@@ -3,31 +3,10 @@ import assert from "node:assert/strict";
 import {test} from "node:test";
 import {EMPTY, objectsIn, renamed, tradesRemoved} from "../../../page/app/document/building.js";
 import {applied} from "../../../page/app/document/edits.js";
-import {formOf} from "../../../page/app/form/fields.js";
 import {parse, plain, written} from "../../../page/read/json.js";
 import {Network} from "../../../page/read/network.js";
 import {answersOf} from "../ask.mjs";
-import {examples} from "./support.mjs";
-
-/** The controls of the form of a text, by their keys. */
-function controlsOf(text, view = {built: 0, ends: {}}) {
-    const lines = formOf(new Network(text), view).flatMap((group) => group.lines);
-    return new Map(lines.flatMap(({controls}) => controls.map((control) => [control.key, control])));
-}
-
-/** A text after some entries, each a key with what is put in; `firm` shows another one. */
-function entered(text, ...entries) {
-    const view = {built: 0, ends: {}};
-    for (const [key, content] of entries) {
-        const control = controlsOf(text, view).get(key);
-        assert.ok(control, `${key} is in the form of ${text}`);
-        if (control.read) assert.equal(control.read(content), content, `${key} takes ${content}`);
-        if (control.look) Object.assign(view, control.look(content));
-        else text = applied(text, control.put(content));
-        Object.assign(view, control.then ?? {});
-    }
-    return text;
-}
+import {controlsOf, entered, examples} from "./support.mjs";
 
 const texts = () => examples().map(({bytes}) => bytes.toString()).filter((text) => {
     const {problem, root} = new Network(text);
@@ -41,11 +20,11 @@ function answerTo(words, text) {
 }
 
 test("firms of all four kinds are made by the form, entry by entry", () => {
-    const text = entered(EMPTY, ["firm add"], ["firm name", "S"], ["firm kind", "table"], ["firm add"], ["firm name", "M"], ["firm add"], ["firm name", "D"],
-        ["firm kind", "dealer"], ["firm add"], ["firm name", "B"], ["new seller", "S"], ["new buyer", "M"], ["trade add"], ["new seller", "M"], ["new buyer", "D"],
+    const text = entered(EMPTY, ["seller-one add"], ["firm name", "S"], ["firm kind", "table"], ["middleman add"], ["firm name", "M"], ["seller-one add"], ["firm name", "D"],
+        ["firm kind", "dealer"], ["buyer-one add"], ["firm name", "B"], ["new seller", "S"], ["new buyer", "M"], ["trade add"], ["new seller", "M"], ["new buyer", "D"],
         ["trade add"], ["new seller", "D"], ["new buyer", "B"], ["trade add"], ["trade 2 name", "last"], ["firm", "0"], ["row add"], ["row 0 worth", "-3"],
-        ["firm", "1"], ["firm kind", "middleman"], ["costs s-m", "1"], ["gains m-d", "2"], ["keeps", true], ["keep", "4"], ["firm", "2"],
-        ["pair m-d as last", true], ["cost m-d as last", "5"], ["firm", "3"], ["amounts last", "20"], ["set add"], ["set 0 greatest", "2"], ["set 0 number 1", "7"]);
+        ["firm", "1"], ["costs s-m", "1"], ["gains m-d", "2"], ["keeps", true], ["keep", "4"], ["firm", "2"],
+        ["pair m-d as last", true], ["cost m-d as last", "5"], ["firm", "3"], ["firm kind", "laminar"], ["amounts last", "20"], ["set 0 greatest", "2"], ["set 0 number 1", "7"]);
     assert.deepEqual(JSON.parse(text), {
         version: 1,
         firms: [{name: "S", kind: "table", rows: [[["s-m"], -3]]}, {name: "M", kind: "middleman", costs: [["s-m", 1]], gains: [["m-d", 2]], keep: 4},
@@ -60,13 +39,14 @@ test("each entry in the form of an example leaves a document, and what it is abo
     for (const text of texts().filter((each) => each.length < 3000)) {
         for (let built = 0; built < new Network(text).firms.length; built += 1) {
             for (const [key, control] of controlsOf(text, {built, ends: {}})) {
-                if (control.look) continue;
+                if (control.look && !control.put) continue;
                 const content = control.kind === "box" ? !control.value : control.kind === "choice" ? control.options.at(-1).value : put[control.kind];
                 if (control.read && control.read(content) === null) continue;
                 const next = applied(text, control.put(content)), same = control.kind === "number" || control.kind === "choice";
                 assert.ok(same || written(plain(parse(next))) !== written(plain(parse(text))), key);
                 const now = controlsOf(next, {built, ends: {}}).get(key);
-                if (control.kind === "number" || control.kind === "name") assert.equal(now.value, content, `${key} of ${text}`);
+                // (a number may make the firm one of another kind, which has it elsewhere)
+                if (control.kind === "name" || (control.kind === "number" && now)) assert.equal(now.value, content, `${key} of ${text}`);
             }
         }
     }

@@ -1,5 +1,9 @@
-// What the tests share: the examples, and numbers that are drawn.
+// What the tests share: the examples, numbers that are drawn, and entries in the form.
+import assert from "node:assert/strict";
 import {readdirSync, readFileSync} from "node:fs";
+import {applied} from "../../../page/app/document/edits.js";
+import {formOf} from "../../../page/app/form/fields.js";
+import {Network} from "../../../page/read/network.js";
 
 const FOLDER = new URL("../../../examples/", import.meta.url);
 
@@ -44,4 +48,24 @@ function numbersOf(firm, trades, draw) {
     const all = [...sales, ...purchases].map(({name}) => name);
     if (sales.length > 0 && purchases.length > 0) return {amounts, sets: [{trades: all, from: 0, values: [0]}]};
     return {amounts, sets: [{trades: all, from: sales.length > 0 ? -4 : 0, values: sales.length > 0 ? [-12, -6, -2, 0, 0] : [0, 0, -3, -9]}]};
+}
+
+/** The controls of the form of a text, by their keys. */
+export function controlsOf(text, view = {built: 0, ends: {}}) {
+    const lines = formOf(new Network(text), view).flatMap((group) => group.lines);
+    return new Map(lines.flatMap(({controls}) => controls.map((control) => [control.key, control])));
+}
+
+/** A text after some entries, each a key with what is put in; `firm` shows another one. */
+export function entered(text, ...entries) {
+    const view = {built: 0, ends: {}};
+    for (const [key, content] of entries) {
+        const control = controlsOf(text, view).get(key);
+        assert.ok(control, `${key} is in the form of ${text}`);
+        if (control.read) assert.equal(control.read(content), content, `${key} takes ${content}`);
+        const seen = control.look?.(content) ?? null;
+        if (seen === null) text = applied(text, control.put(content));
+        Object.assign(view, seen ?? control.then ?? {});
+    }
+    return text;
 }
