@@ -6,6 +6,7 @@ import {FORM} from "./en/form.js";
 import {HELP} from "./en/help.js";
 import {PAGE} from "./en/page.js";
 import {PICTURES} from "./en/pictures.js";
+import {TABLES} from "./en/tables.js";
 import {VIEWS} from "./en/views.js";
 
-export const EN = {...PAGE, ...HELP, ...VIEWS, ...FORM, ...ANSWERS, ...CLAIMS, ...FAULTS, ...PICTURES};
+export const EN = {...PAGE, ...HELP, ...VIEWS, ...FORM, ...ANSWERS, ...CLAIMS, ...FAULTS, ...PICTURES, ...TABLES};

@@ -1,0 +1,50 @@
+// Whether the page makes of tables what tools/lanes makes of them, byte by byte, and says what is wrong where that does.
+import assert from "node:assert/strict";
+import {spawnSync} from "node:child_process";
+import {readFileSync} from "node:fs";
+import {test} from "node:test";
+import {fileURLToPath} from "node:url";
+import {Faults, measureOf, rowsIn} from "../../../page/read/cells.js";
+import {networkOf, tableOf} from "../../../page/read/lanes.js";
+import {documentOf} from "../../../page/read/lots.js";
+import {saysFault} from "../../../page/say/tables.js";
+
+const HOME = new URL("../../../", import.meta.url), read = (path) => readFileSync(new URL(path, HOME), "utf8");
+const {base, made, refused} = JSON.parse(read("tools/cases/tables.json"));
+
+/** The sizes that options of tools/lanes give. */
+function sizesIn(options = []) {
+    const after = (name) => options.includes(name) ? measureOf(options[options.indexOf(name) + 1], {}, ".").value : null;
+    return {lot: after("--lot"), unit: after("--unit"), isRounded: options.includes("--round")};
+}
+
+/** The document of two tables. */
+function madeOf({firms, lanes}, options) {
+    const [one, other] = [["firms", firms], ["lanes", lanes]].map(([name, text]) => tableOf(text, rowsIn(text, name)));
+    return documentOf(networkOf(one, other), sizesIn(options)).document;
+}
+
+test("documents are made of tables", () => {
+    for (const {name, firms, lanes, options, document} of made) assert.equal(madeOf({firms, lanes}, options), document, name);
+});
+
+test("what is wrong in tables is told at its cell", () => {
+    for (const {in: where, put: [old, put], said, options} of refused) {
+        const tables = {...base, [where]: base[where].replace(old, () => put)}, sizes = ["--lot", "20", "--unit", "0.1", ...(options ?? [])].reverse();
+        const last = (name) => sizes[sizes.indexOf(name) - 1];
+        assert.throws(() => madeOf(tables, ["--lot", last("--lot"), "--unit", last("--unit")]), (error) => {
+            assert.ok(error instanceof Faults, `${error.stack}`);
+            const told = saysFault(error.list[0], (table) => `${table}.csv`);
+            assert.ok(told.startsWith(said), `${told}\n${said}`);
+            return true;
+        });
+    }
+});
+
+test("the examples of tables become what tools/lanes makes of them", () => {
+    for (const [firms, lanes, ...options] of [["firms", "lanes", "--lot", "20", "--unit", "1"], ["firms", "lanes"], ["chain-firms", "chain-lanes", "--lot", "10"]]) {
+        const paths = [firms, lanes].map((name) => `examples/lanes/${name}.csv`), [one, other] = paths.map(read);
+        const {stdout} = spawnSync(fileURLToPath(new URL("tools/lanes", HOME)), ["document", ...paths, ...options], {cwd: fileURLToPath(HOME), encoding: "utf8"});
+        assert.equal(madeOf({firms: one, lanes: other}, options), stdout, paths[0]);
+    }
+});
