@@ -8,6 +8,7 @@ import {Marking, showResults} from "./exercise/results.js";
 import {Auctions, showAuction} from "./auction/auction.js";
 import {readyBuild, showBuild} from "./form/build.js";
 import {readyClaim, showClaim} from "./form/claim.js";
+import {readySheet, showSheet} from "./form/sheet.js";
 import {showFirms} from "./network/firms.js";
 import {handle} from "./network/hand.js";
 import {readyHints} from "./network/hint.js";
@@ -109,6 +110,7 @@ function show(value) {
     showEditor(value);
     showAnswers(value);
     showClaim(value);
+    showSheet(value);
     showBuild(value);
     showResults(value);
 }
@@ -127,6 +129,7 @@ async function start() {
     readyNudge(store);
     readyClaim(store);
     readyBuild(store);
+    readySheet(store);
     handle(store, typePrice);
     readyHints();
     bindMeanings();

@@ -29,10 +29,25 @@ function sizesOf({firms, lanes}, lot, unit, isRounded) {
     const measures = schedules.flatMap(({capacity, steps}) => [capacity, ...steps.map(({quantity}) => quantity)]);
     const quantities = measures.filter((measure) => measure !== null && !measure.value.isZero()).map(({value}) => value);
     const size = lot ?? (quantities.length === 0 ? ONE : commonPart(quantities));
-    const amounts = schedules.flatMap(({steps}) => steps.map(({rate}) => rate.value.times(size)));
+    return {lot: size, unit: unit ?? unitFor(schedules.flatMap(({steps}) => steps.map(({rate}) => rate.value.times(size)))), isRounded};
+}
+
+/** The largest of 1, 0.1, 0.01 and so on of which amounts are whole numbers. */
+export function unitFor(amounts) {
     const isWhole = (places) => amounts.every((amount) => amount.times(new Fraction(10n ** BigInt(places))).denominator === 1n);
     const places = [0, 1, 2, 3, 4, 5, 6, 7, 8, 9].find(isWhole) ?? 2;
-    return {lot: size, unit: unit ?? new Fraction(1n, 10n ** BigInt(places)), isRounded};
+    return new Fraction(1n, 10n ** BigInt(places));
+}
+
+/** The first version with room for so many firms, or trades, and so many trades of a firm; null where none has. */
+export function versionFor(count, own) {
+    return ALL.find((version) => count <= version.most && own <= version.own) ?? null;
+}
+
+/** A number in units, as a version has room for it; what is wrong with it goes to some faults. */
+export function amountIn(version, unit, measure, faults) {
+    const [amount] = each([measure], ({value, place}) => small(version, amountOf({lot: ONE, unit, isRounded: false}, {value, place}), place), faults);
+    return amount ?? 0n;
 }
 
 /** The greatest number of which all these are whole multiples. */
@@ -50,7 +65,8 @@ function lotsOf(sizes, {value, place}) {
 /** What a lot costs, or is worth, in units. */
 function amountOf({lot, unit, isRounded}, {value, place}) {
     const amount = value.times(lot).over(unit);
-    if (isRounded) return floor(amount.plus(new Fraction(1n, 2n))); // (a greater amount is never rounded to a lesser one)
+    // (a greater amount is never rounded to a lesser one)
+    if (isRounded) return floor(amount.plus(new Fraction(1n, 2n)));
     if (amount.denominator === 1n) return amount.numerator;
     throw faultAt(place, "sheet.no_units", {rate: digits(value), lot: digits(lot), amount: digits(amount.times(unit)), unit: digits(unit)});
 }
@@ -87,7 +103,7 @@ function built({firms, lanes}, sizes) {
     throwAll(faults);
     const schedules = new Map(firms.map(({name}, k) => [name, firmSchedules[k]])), codes = codesOf(firms);
     const lots = lanes.flatMap((lane, k) => lotsBy(lane, laneSchedules[k], schedules)), own = mostOwn(lots);
-    const version = ALL.find(({most, own: room}) => Math.max(firms.length, lots.length) <= most && own <= room);
+    const version = versionFor(Math.max(firms.length, lots.length), own);
     for (const {cost, lane} of lots) small(version, cost, lane.place);
     const note = {lot: digits(sizes.lot, 12), unit: digits(sizes.unit, 12), rounded: sizes.isRounded};
     return {version: version.number, note, firms: firms.map((firm) => laminar(firm, codes.get(firm.name), schedules.get(firm.name), lots, version)),

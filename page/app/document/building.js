@@ -125,10 +125,15 @@ export function moved(network, trade, side, firm) {
         ...firms.flatMap(({node}) => forgotten(node, OF_A_FIRM, [textAt(trade, "name")]))];
 }
 
+/** The edits that add items to a list of a firm. */
+export function itemsAdded(firm, name, texts) {
+    const list = memberOf(firm, name, "list"), text = texts.join(",");
+    return list === null ? put(firm, name, `[${text}]`) : [added(list, text)];
+}
+
 /** The edits that add an item to a list of a firm. */
 export function itemAdded(firm, name, text) {
-    const list = memberOf(firm, name, "list");
-    return list === null ? put(firm, name, `[${text}]`) : [added(list, text)];
+    return itemsAdded(firm, name, [text]);
 }
 
 /** The edits that take an item out of a list of a firm. */

@@ -5,10 +5,23 @@ import {amountFor, countedBy, goingOn, membersOf, setOf, sideOf, templateOf} fro
 import {itemsIn, numbered, objectsIn, textAt} from "./building.js";
 import {added, applied, memberOf, put, replaced, without} from "./edits.js";
 
+const owns = new WeakMap();
+
 /** The trades of a firm, each with whether it is a sale. */
 export function ownTrades(network, firm) {
-    const all = objectsIn(network, "trades").map(({node, name}) => ({name, ends: [textAt(node, "seller"), textAt(node, "buyer")]}));
-    return all.filter(({ends}) => ends.includes(firm)).map(({name, ends: [seller]}) => ({name, isSale: seller === firm}));
+    if (!owns.has(network)) owns.set(network, allOwn(network));
+    return owns.get(network).get(firm) ?? [];
+}
+
+/** The trades of all firms, by their names. */
+function allOwn(network) {
+    const found = new Map(), add = (firm, trade) => found.set(firm, [...(found.get(firm) ?? []), trade]);
+    for (const {node, name} of objectsIn(network, "trades")) {
+        const [seller, buyer] = [textAt(node, "seller"), textAt(node, "buyer")];
+        add(seller, {name, isSale: true});
+        if (buyer !== seller) add(buyer, {name, isSale: false});
+    }
+    return found;
 }
 
 /** The template of a firm, with its numbers. */

@@ -15,7 +15,7 @@ const MOST_UNDONE = 400;
 
 /** How a document is looked at that was just opened. */
 const AT_FIRST = {isOver: false, hasRanges: false, hasReason: false, window: null, isWide: null, filter: "", firm: null,
-    sort: {by: null, isDown: false}, built: 0, ends: {}, asked: null, isFree: false};
+    sort: {by: null, isDown: false}, built: 0, ends: {}, asked: null, isFree: false, sheet: null};
 
 /**
  * The value. `document` is what is looked at, with the `exercise` as which it was opened and how often it was changed since, its `tries`;
@@ -25,7 +25,7 @@ const AT_FIRST = {isOver: false, hasRanges: false, hasReason: false, window: nul
  * command in `words`, each with the `document` that it was asked of; where that isn't the present one it is old. `run` is how far the
  * command is, `view` how all this is looked at: `mode` is "guess", "sign" or "whatif", which was come to `from`
  * one of the others, `isEasy` leaves out the views for those who know the format, `people` says whether firms are called people, null where
- * the document's note does, `step` is the place in a story that is told, and `built` that of the firm in the form. `supposed` is who is away and what is barred before and after a change, as edits; `compared` and `contributed` are
+ * the document's note does, `step` is the place in a story that is told, and `built` that of the firm in the form, beside which a `sheet` of tables may be open. `supposed` is who is away and what is barred before and after a change, as edits; `compared` and `contributed` are
  * what was said of it. `auction` is null, or an auction of the market as far as it went.
  */
 export const START = {

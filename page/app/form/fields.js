@@ -8,6 +8,7 @@ import {
 } from "../document/building.js";
 import {memberOf, put, replaced} from "../document/edits.js";
 import {asTemplate, kindOf, ownTrades, settled, textOfNew, wouldLose} from "../document/kinds.js";
+import {doubtsGroup} from "./doubts.js";
 import {doesOf, templateParts, templatesFor} from "./kinds.js";
 import {calledBy, shownName, whyNoName} from "./naming.js";
 import {between, box, button, choice, number} from "./parts.js";
@@ -27,7 +28,7 @@ export function formOf(network, {built, ends, asked, isFree = false}) {
     const firms = objectsIn(network, "firms"), names = firms.map(({name}) => name);
     const place = Math.min(built, firms.length - 1), here = firms[place];
     const parts = here ? ofFirm(network, here, names, asked, isFree) : [];
-    return [firmsGroup(network, names, place), ...parts, tradesGroup(network, names, here, ends)];
+    return [firmsGroup(network, names, place), ...parts, tradesGroup(network, names, here, ends), ...doubtsGroup(network)];
 }
 
 /** What a firm or trade is called, which can be changed. `keys` are of what it says, and of its whole name. */

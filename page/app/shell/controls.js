@@ -9,6 +9,7 @@ import {arrange} from "../document/terms.js";
 import {bindBegun, sayBegun} from "../exercise/begun.js";
 import {bindLesson} from "../exercise/lesson.js";
 import {sortedOut} from "../exercise/results.js";
+import {takeTables} from "../form/sheet.js";
 import {objectors} from "../network/firms.js";
 import {zoomIn, zoomOut} from "../network/scene.js";
 import {COMMANDS} from "../program/commands.js";
@@ -44,11 +45,29 @@ export function bind(store, documents, run) {
     bindKept(store);
 }
 
-/** Opens files: of documents the last one, and all results. */
+/** Opens files: of documents the last one, all results, and tables as the market that they make. */
 async function open(store, list) {
-    const {results, files} = await sortedOut(list);
-    if (files.length > 0) openFile(store, files[files.length - 1]);
+    const {results, files} = await sortedOut(list), isTable = ({bytes}) => store.value.document.exercise === null && openedAs(bytes).says === "file.table";
+    const tables = files.filter(isTable), documents = files.filter((file) => !isTable(file));
+    if (documents.length > 0) openFile(store, documents[documents.length - 1]);
+    if (tables.length > 0) openTables(tables);
     if (results.length > 0) store.act("resulted", results);
+}
+
+/** Takes tables that are files; one that isn't UTF-8 is told. */
+function openTables(files) {
+    const texts = files.map(({name, bytes}) => [name, textIn(openedAs(bytes).bytes)]), unread = texts.find(([, text]) => text === null);
+    part("notice").hidden = unread === undefined;
+    if (unread !== undefined) part("notice").textContent = say("sheet.no_utf8", {name: unread[0]});
+    else takeTables(...texts.map(([, text]) => text));
+}
+
+function textIn(bytes) {
+    try {
+        return new TextDecoder("utf-8", {fatal: true}).decode(bytes);
+    } catch {
+        return null;
+    }
 }
 
 /** Opens a file, and says what it is where it isn't a document as it stands. */

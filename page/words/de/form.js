@@ -21,6 +21,14 @@ export const FORM = {
         middleman: "Zwischenhandel: kauft eines und verkauft es weiter", dealer: "Handel: verkauft Gekauftes weiter, in Paaren",
         laminar: "als Beträge, Kapazitäten und Stufen", table: "als Zahlen für jedes Bündel",
     },
+    doubt: {
+        all_unwanted: "Niemand würde {count} Geschäfte je wollen, bei denen weniger gezahlt wird, als der Verkauf verlangt: {trades}.", remove_trades: "Diese Geschäfte entfernen",
+        title: "Ist das so gemeint?", more: "Noch {count} von dieser Art.", idle: "{firm} hat kein Geschäft.", remove_firm: "Firma entfernen",
+        sells_often: "{firm} kann {count} Mal verkaufen: nichts sagt, dass es nur eines gibt.", sell_one: "Nur eines verkaufen", buy_one: "Nur eines kaufen",
+        buys_none: "{firm} hat nichts zu verkaufen, weil nichts gekauft wird.", sells_none: "{firm} kauft und kann es nicht weiterverkaufen.",
+        apart: "Was {firm} verkauft, hat nichts damit zu tun, was {firm} kauft.", middleman: "Zwischenhandel daraus machen", never: "{firm} kann das Geschäft {trade} nicht haben.",
+        pair: "Ein Paar mit jedem anderen machen", remove_trade: "Geschäft entfernen", unwanted: "Niemand würde {trade} je wollen: {buyer} zahlt bis {most}, und {seller} verkauft ab {least}.",
+    },
     does: {
         seller_one: "Verkauft eines, gleich an wen, ab {price}.", seller_many: "Verkauft bis zu {most}, das erste ab {price}.",
         buyer_one: "Kauft eines, gleich von wem, und zahlt bis {price}.", buyer_many: "Kauft bis zu {most} und zahlt für das erste bis {price}.",

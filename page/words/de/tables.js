@@ -1,6 +1,16 @@
 // Tabellen, die getippt, eingefügt und abgelegt werden: was darin falsch ist, und wie ein Markt daraus wird.
 export const TABLES = {
     sheet: {
+        title: "Tabellen, aus denen ein Markt wird", grid: "Wer verkauft und wer kauft, als Tabelle", paste: "Tabellen einfügen", make: "Markt daraus machen", add_seller: "Verkauf: eine Spalte mehr", add_buyer: "Kauf: eine Zeile mehr",
+        pasted: "Zellen hier einfügen", lot: "Ein Los ist", unit: "eine Geldeinheit ist", round: "runden, was ein Los kostet", found: "gefunden",
+        the_grid: "Tabelle", the_firms: "Firmen", the_lanes: "Wege", is_made: "Das Dokument ist dieser Markt.",
+        wanted: "Kopiere Zellen in einer Tabellenkalkulation und füge sie hier ein: wer verkauft nach rechts, wer kauft nach unten; oder eine Tabelle mit Firmen und eine mit Wegen. Eine CSV-Datei kann auf der Seite abgelegt werden.",
+        firms_wanted: "Füge jetzt die Tabelle der Firmen ein: firm, role, capacity und Kosten.", lanes_wanted: "Füge jetzt die Tabelle der Wege ein: from, to, good, capacity und Kosten.",
+        grid_made: "{sellers} nach rechts, {buyers} nach unten, {trades} Geschäfte.", whole: "Alle Zahlen sind ganz und stehen im Dokument so, wie sie sind.",
+        scale: "Das Dokument zählt in {unit}, 1 ist dort also {count}.", tables_made: "Ein Los ist {lot}, und das Dokument zählt Geld in {unit}.",
+        more_rows: {one: "{count} weitere Zeile wird nicht gezeigt.", other: "{count} weitere Zeilen werden nicht gezeigt."}, no_utf8: "{name} ist kein UTF-8: speichere die Tabelle als CSV in UTF-8.",
+        same_name: "{text} gibt es schon", capacity_wanted: "{text} ist keine Kapazität, eine ganze Zahl von 1 bis {most}", no_worths: "es gibt noch keinen Wert: tippe, was etwas wert ist",
+        too_large: "das ist größer, als ein Dokument sein darf: 1.024 Firmen und Geschäfte, 60 bei einer Firma", cost: "Kosten", at_most: "höchstens",
         row: "{table}, Zeile {row}", column: "{row}, Spalte {column}", missing_column: "{row}, Spalte {column}, die fehlt",
         no_table: "das ist keine Tabelle mit Zellen, zwischen denen '{sign}' steht: Anführungszeichen sind offen, oder es steht etwas dahinter",
         no_number: "{text} ist keine Zahl", below_zero: "{text} ist kleiner als 0",

@@ -20,6 +20,14 @@ export const FORM = {
         middleman: "middleman: buys one and sells it on", dealer: "dealer: sells on what is bought, paired",
         laminar: "as amounts, capacities and steps", table: "as numbers for each bundle",
     },
+    doubt: {
+        all_unwanted: "Nobody would ever want {count} trades, whose buyers pay less than their sellers want: {trades}.", remove_trades: "Remove these trades",
+        title: "Is that what you mean?", more: "{count} more of this kind.", idle: "{firm} has no trade.", remove_firm: "Remove the firm",
+        sells_often: "{firm} may sell {count} times: nothing says that there is only one.", sell_one: "Let it sell one", buy_one: "Let it buy one",
+        buys_none: "{firm} has nothing to sell, since nothing is bought.", sells_none: "{firm} buys and can't sell it on.",
+        apart: "What {firm} sells has nothing to do with what {firm} buys.", middleman: "Make it a middleman", never: "{firm} can't have the trade {trade}.",
+        pair: "Pair it with all others", remove_trade: "Remove the trade", unwanted: "Nobody would ever want {trade}: {buyer} pays up to {most}, and {seller} sells from {least}.",
+    },
     does: {
         seller_one: "Sells one, to any of them, from {price}.", seller_many: "Sells up to {most}, from {price} for the first.",
         buyer_one: "Buys one, from any of them, and pays up to {price}.", buyer_many: "Buys up to {most}, and pays up to {price} for the first.",

@@ -9,6 +9,7 @@ export const HELP = {
         third: "Press \u201cWho objects?\u201d, and look for prices at which nobody does.",
     },
     tip: {
+        grid: "A table of sellers and buyers, with a number in each cell.", paste: "Makes a market of cells that are copied in a spreadsheet, or of CSV files.",
         examples: "Opens a network to begin with.", new: "Begins an empty document, to be filled by the form.",
         open: "Opens files from this device: documents, or results of an exercise.", save: "Gives the document as a file.",
         link: "Makes a link, and a code for cameras, that opens the page with this document.",

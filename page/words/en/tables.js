@@ -1,6 +1,16 @@
 // Tables that are typed, pasted and dropped: what is wrong in them, and how they are made a market.
 export const TABLES = {
     sheet: {
+        title: "Tables that become a market", grid: "Sellers and buyers as a grid", paste: "Paste or drop tables", make: "Make the market", add_seller: "One more seller", add_buyer: "One more buyer",
+        pasted: "Paste cells here", lot: "A lot is", unit: "a unit of money is", round: "round what a lot costs", found: "found",
+        the_grid: "the grid", the_firms: "firms", the_lanes: "lanes", is_made: "The document is this market.",
+        wanted: "Copy cells in a spreadsheet and paste them here: a grid of sellers across and buyers down, or a table of firms and one of lanes. A CSV file may be dropped on the page.",
+        firms_wanted: "Now paste the table of firms: firm, role, capacity and costs.", lanes_wanted: "Now paste the table of lanes: from, to, good, capacity and costs.",
+        grid_made: "{sellers} across, {buyers} down, {trades} trades.", whole: "All numbers are whole, and stand in the document as they are.",
+        scale: "The document counts in {unit}, so 1 is {count} there.", tables_made: "A lot is {lot}, and the document counts money in {unit}.",
+        more_rows: {one: "{count} more row isn't shown.", other: "{count} more rows aren't shown."}, no_utf8: "{name} is no UTF-8: save the table as CSV in UTF-8.",
+        same_name: "{text} is there already", capacity_wanted: "{text} is no capacity, a whole number from 1 to {most}", no_worths: "there is no worth yet: type what something is worth to a buyer",
+        too_large: "this is larger than a document may be: 1,024 firms and trades, 60 at a firm", cost: "cost", at_most: "at most",
         row: "{table}, row {row}", column: "{row}, column {column}", missing_column: "{row}, column {column}, which isn't there",
         no_table: "this is no table of cells parted by '{sign}': a quote isn't closed, or something stands behind it",
         no_number: "{text} is no number", below_zero: "{text} is below 0",

@@ -4,13 +4,19 @@ import {spawnSync} from "node:child_process";
 import {readFileSync} from "node:fs";
 import {test} from "node:test";
 import {fileURLToPath} from "node:url";
-import {Faults, measureOf, rowsIn} from "../../../page/read/cells.js";
+import {Faults, measureOf, rowsIn, separatorOf} from "../../../page/read/cells.js";
+import {gridIn, MARGINS, marketOf, wholeGrid} from "../../../page/read/grid.js";
 import {networkOf, tableOf} from "../../../page/read/lanes.js";
 import {documentOf} from "../../../page/read/lots.js";
+import {Network} from "../../../page/read/network.js";
 import {saysFault} from "../../../page/say/tables.js";
+import {LANGUAGES} from "../../../page/words/say.js";
+import {answersOf} from "../ask.mjs";
 
 const HOME = new URL("../../../", import.meta.url), read = (path) => readFileSync(new URL(path, HOME), "utf8");
 const {base, made, refused} = JSON.parse(read("tools/cases/tables.json"));
+
+const market = answersOf(), skip = market === null && "there is no program";
 
 /** The sizes that options of tools/lanes give. */
 function sizesIn(options = []) {
@@ -47,4 +53,35 @@ test("the examples of tables become what tools/lanes makes of them", () => {
         const {stdout} = spawnSync(fileURLToPath(new URL("tools/lanes", HOME)), ["document", ...paths, ...options], {cwd: fileURLToPath(HOME), encoding: "utf8"});
         assert.equal(madeOf({firms: one, lanes: other}, options), stdout, paths[0]);
     }
+});
+
+const grids = JSON.parse(read("tools/cases/grids.json")), LABELS = {cost: "cost", most: "at most"};
+const gridMade = (text) => marketOf(wholeGrid(rowsIn(text, "grid")), separatorOf(text));
+
+test("a grid becomes an assignment market, and is a grid again when that is opened", {skip}, () => {
+    for (const {name, pasted, document, surplus} of grids.filter(({faults}) => !faults)) {
+        const made = gridMade(pasted), again = gridIn(new Network(made.document), LABELS);
+        if (document) assert.equal(made.document, document);
+        assert.equal(JSON.parse(market(["solve"], made.document)).surplus, surplus, name);
+        assert.equal(marketOf(again, "\t").document, made.document, name);
+    }
+});
+
+test("what is wrong in a grid is told at its cells", () => {
+    for (const {name, pasted, faults} of grids.filter((each) => each.faults)) {
+        assert.throws(() => gridMade(pasted), (error) => {
+            assert.ok(error instanceof Faults, error.stack);
+            const told = error.list.map((fault) => saysFault(fault, (table) => table));
+            assert.equal(told.length, faults.length, `${name}: ${told.join("; ")}`);
+            faults.forEach((said, k) => assert.ok(told[k].startsWith(said), told[k]));
+            return true;
+        });
+    }
+});
+
+test("what is no grid isn't one", () => {
+    const isOne = (name) => gridIn(new Network(read(`examples/${name}.json`)), LABELS) !== null;
+    assert.deepEqual(["houses", "lesson/2-assignment", "lesson/1-one-good"].map(isOne), [true, true, true]);
+    assert.deepEqual(["used-cars", "lesson/3-middleman", "lesson/4-substitutes", "plant", "supply-chain"].map(isOne), [false, false, false, false, false]);
+    assert.deepEqual(Object.keys(LANGUAGES).map((each) => [LANGUAGES[each].table.sheet.cost, LANGUAGES[each].table.sheet.at_most].every((word, k) => [MARGINS.cost, MARGINS.most][k].includes(word.toLowerCase()))), [true, true]);
 });
