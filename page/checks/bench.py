@@ -858,12 +858,12 @@ def tries_of_versions(page: Bench, program: str | None):
     before = page.text()
     kind = json.loads(before)["firms"][0]["kind"]
     page.browser.run(CHOSEN, "firm kind", "table" if kind != "table" else "laminar")
-    yield "another kind asks before numbers go", page.text() == before and "keeps none of its numbers" in page.says("build-fields")
+    yield "another kind asks before numbers go", page.text() == before and "doesn't keep all of its numbers" in page.says("build-fields")
     page.click('[data-key="kind keep"]')
-    yield "they may stay", page.text() == before and "keeps none" not in page.says("build-fields")
+    yield "they may stay", page.text() == before and "keep all" not in page.says("build-fields")
     page.browser.run(CHOSEN, "firm kind", "table" if kind != "table" else "laminar")
     page.click('[data-key="kind change"]')
-    yield "or go", json.loads(page.text())["firms"][0]["kind"] != kind and "keeps none" not in page.says("build-fields")
+    yield "or go", json.loads(page.text())["firms"][0]["kind"] != kind and "keep all" not in page.says("build-fields")
     page.click("#tab-guess")
 
 
@@ -872,8 +872,6 @@ def tries_to_open(page: Bench, program: str | None):
     for name, given in (("a byte order mark", b"\xef\xbb\xbf" + data), ("UTF-16", data.decode().encode("utf-16"))):
         page.open("marked.json", given)
         yield f"a file with {name} is told as that, and opened", name in page.says("notice") and page.text() == data.decode() and page.guess().startswith("\u2713")
-    page.open("table.csv", b"name;seller;buyer\na;S;B\n")
-    yield "a table is told as one", "is a table" in page.says("notice")
     page.open("plain.json", data)
     yield "and a document as nothing else", page.value("document.getElementById('notice').hidden")
     page.open("broken.json", data[:-20])
@@ -1125,7 +1123,7 @@ def tries_of_access(page: Bench):
     yield "and all of a claim has a name", unnamed(nodes) == [] and {"price of o1d", "over"} <= set(names_in(nodes))
     page.click("#tab-build")
     nodes = tree_of(page)
-    yield "and all of the form", unnamed(nodes) == [] and {"Amount of o1b1", "Trade o1b1 from", "Add a trade"} <= set(names_in(nodes))
+    yield "and all of the form", unnamed(nodes) == [] and {"Cost of o1b1", "Trade o1b1 from", "Add a trade"} <= set(names_in(nodes))
     page.open("exercise.json", b'{"version":1,"firms":[],"trades":[],"note":{"exercise":"None","goal":"equilibrium"}}')
     nodes = tree_of(page)
     yield "and all of an exercise", unnamed(nodes) == [] and {"Your name, a nickname or a number", "Save the result"} <= set(names_in(nodes))

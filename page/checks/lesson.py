@@ -32,9 +32,9 @@ def entry(key: str) -> str:
 
 def tries_to_build(page: Bench, program: str | None):
     page.click("#new")
-    yield "a new document has no firms, and a form", page.value("document.querySelectorAll('#build-fields button').length") == 1
-    for name in "SB":
-        page.click(entry("firm add"))
+    yield "a new document has no firms, and a form", page.value("document.querySelectorAll('#build-fields button').length") == 3
+    for name, kind in (("S", "seller-one"), ("B", "buyer-one")):
+        page.click(entry(f"{kind} add"))
         page.drag(entry("firm name"), 0)
         page.press("Control+a", name, "Tab")
     yield "firms are added and named by keys", [firm["name"] for firm in json.loads(page.text())["firms"]] == ["S", "B"]
@@ -42,11 +42,11 @@ def tries_to_build(page: Bench, program: str | None):
     page.browser.run(ENTERED, "new seller", "S")
     page.click(entry("trade add"))
     yield "a trade is added", json.loads(page.text())["trades"] == [{"name": "s-b", "seller": "S", "buyer": "B"}] and list(page.drawn()["lanes"]) == ["s-b"]
-    page.drag(entry("amounts s-b"), 0)
+    page.drag(entry("each s-b"), 0)
     page.press("Control+a", "7")
-    yield "an amount is typed", json.loads(page.text())["firms"][1]["amounts"] == [["s-b", 7]] and page.focused() == "amounts s-b"
+    yield "a worth is typed", json.loads(page.text())["firms"][1]["amounts"] == [["s-b", 7]] and page.focused() == "each s-b"
     page.press("ArrowUp", "ArrowUp")
-    yield "and made greater by keys", json.loads(page.text())["firms"][1]["amounts"] == [["s-b", 9]] and page.focused() == "amounts s-b"
+    yield "and made greater by keys", json.loads(page.text())["firms"][1]["amounts"] == [["s-b", 9]] and page.focused() == "each s-b"
     page.press("Control+z", "Control+z", "Control+z")
     yield "each entry is taken back by itself", json.loads(page.text())["firms"][1]["amounts"] == []
     page.press(*["Control+Shift+Z"] * 3)
@@ -69,12 +69,12 @@ def tries_to_build(page: Bench, program: str | None):
     page.focus("firm:B")
     page.press("Enter")
     yield "a firm that is chosen in the network is shown", page.value("document.querySelector(arguments[0]).value", entry("firm name")) == "B"
-    page.click(entry("set add"))
+    page.browser.run(ENTERED, "firm kind", "laminar")
     page.drag(entry("set 0 greatest"), 0)
     page.press("Control+a", "2")
     page.drag(entry("set 0 number 2"), 0)
     page.press("Control+a", "-", "1")
-    yield "a capacity with steps is added", json.loads(page.text())["firms"][1]["sets"] == [{"trades": ["car"], "from": 0, "values": [0, 0, -1]}]
+    yield "a capacity with steps is made of it", json.loads(page.text())["firms"][1]["sets"] == [{"trades": ["car"], "from": 0, "values": [0, 0, -1]}]
     page.click("#tab-guess")
     page.click("#solve")
     page.wait_for("state", "answered")

@@ -150,7 +150,7 @@ function rowFor(name, row, width) {
     const line = made("tr");
     line.append(...Array.from({length: width}, (_, column) => {
         const cell = made("td");
-        cell.append(made("input", "", {type: "text", size: name === "grid" ? 6 : 9, autocomplete: "off", spellcheck: "false", "aria-label": cellName(row, column), "data-key": `cell ${name} ${row} ${column}`}));
+        cell.append(made("input", "", {type: "text", size: name === "grid" ? 4 : 9, autocomplete: "off", spellcheck: "false", "aria-label": cellName(row, column), "data-key": `cell ${name} ${row} ${column}`}));
         return cell;
     }));
     return line;

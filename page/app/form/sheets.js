@@ -94,6 +94,7 @@ export function outcomeOf(sheet) {
         return sheet.grid === null ? ofTables(sheet) : ofGrid(sheet.grid);
     } catch (error) {
         if (!(error instanceof Faults)) throw error;
+        if (error.list[0].key === "sheet.no_worths") return {text: null, faults: [], says: say("sheet.no_worths")};
         return {text: null, says: "", faults: error.list.map((fault) => ({says: saysFault(fault, (table) => say(CALLED[table])), ...cellOf(sheet, fault.place)}))};
     }
 }

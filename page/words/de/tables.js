@@ -9,7 +9,7 @@ export const TABLES = {
         grid_made: "{sellers} nach rechts, {buyers} nach unten, {trades} Geschäfte.", whole: "Alle Zahlen sind ganz und stehen im Dokument so, wie sie sind.",
         scale: "Das Dokument zählt in {unit}, 1 ist dort also {count}.", tables_made: "Ein Los ist {lot}, und das Dokument zählt Geld in {unit}.",
         more_rows: {one: "{count} weitere Zeile wird nicht gezeigt.", other: "{count} weitere Zeilen werden nicht gezeigt."}, no_utf8: "{name} ist kein UTF-8: speichere die Tabelle als CSV in UTF-8.",
-        same_name: "{text} gibt es schon", capacity_wanted: "{text} ist keine Kapazität, eine ganze Zahl von 1 bis {most}", no_worths: "es gibt noch keinen Wert: tippe, was etwas wert ist",
+        same_name: "{text} gibt es schon", capacity_wanted: "{text} ist keine Kapazität, eine ganze Zahl von 1 bis {most}", no_worths: "Tippe, was jedes Ding beim Kauf wert ist. Keine Zahl heißt: kein Geschäft.",
         too_large: "das ist größer, als ein Dokument sein darf: 1.024 Firmen und Geschäfte, 60 bei einer Firma", cost: "Kosten", at_most: "höchstens",
         row: "{table}, Zeile {row}", column: "{row}, Spalte {column}", missing_column: "{row}, Spalte {column}, die fehlt",
         no_table: "das ist keine Tabelle mit Zellen, zwischen denen '{sign}' steht: Anführungszeichen sind offen, oder es steht etwas dahinter",
