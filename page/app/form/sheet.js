@@ -1,5 +1,5 @@
 // The tables of the form: cells that are typed, pasted or dropped, what is wrong at which, and the market that is made of them.
-import {say} from "../../words/say.js";
+import {language, say} from "../../words/say.js";
 import {networkOf} from "../document/state.js";
 import {made, on, part, write} from "../shell/page.js";
 import {cellName, EMPTY_SHEET, gridSheet, grown, isBlock, outcomeOf, tablesOf, withBlock, withCell, withCells} from "./sheets.js";
@@ -11,9 +11,9 @@ let store = null, shown = null, structure = "";
 
 const outcomes = new WeakMap();
 
-/** What comes of a sheet, found once. */
+/** What comes of a sheet, found once in each language. */
 function outcomeFor(sheet) {
-    if (!outcomes.has(sheet)) outcomes.set(sheet, outcomeOf(sheet));
+    if (outcomes.get(sheet)?.language !== language()) outcomes.set(sheet, {...outcomeOf(sheet), language: language()});
     return outcomes.get(sheet);
 }
 
