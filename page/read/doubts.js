@@ -74,11 +74,13 @@ function mostInSets(firm, own, name) {
 }
 
 function mostInRows(firm, own, name) {
-    const key = (bundle) => JSON.stringify([...bundle].sort()), rows = itemsOf(firm.rows).filter((row) => Array.isArray(row) && Array.isArray(row[0]) && typeof row[1] === "bigint");
-    const worths = new Map([[key([]), 0n], ...rows.map(([bundle, worth]) => [key(bundle), worth])]), having = rows.filter(([bundle]) => bundle.includes(name));
+    const key = (bundle) => JSON.stringify([...bundle].sort()), isRow = (row) => Array.isArray(row) && Array.isArray(row[0]) && typeof row[1] === "bigint";
+    const rows = itemsOf(firm.rows).filter(isRow), having = rows.filter(([bundle]) => bundle.includes(name));
+    const worths = new Map([[key([]), 0n], ...rows.map(([bundle, worth]) => [key(bundle), worth])]);
     const steps = having.map(([bundle, worth]) => [worth, worths.get(key(bundle.filter((each) => each !== name)))]);
     if (steps.length === 0) return NEVER;
-    return steps.some(([, without]) => without === undefined) ? null : steps.map(([worth, without]) => worth - without).reduce((one, other) => (one > other ? one : other));
+    if (steps.some(([, without]) => without === undefined)) return null;
+    return steps.map(([worth, without]) => worth - without).reduce((one, other) => (one > other ? one : other));
 }
 
 function mostOfMiddleman(firm, own, name) {

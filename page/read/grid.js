@@ -115,8 +115,9 @@ function nameTrades(trades, codes) {
 function firmText(firm, code, trades, inUnits) {
     const further = Array(firm.most - 1).fill(0n), own = trades.map(({name}) => ({name, isSale: firm.isSeller}));
     const each = new Map(firm.isSeller ? [] : trades.map(({name, worth}) => [name, inUnits(worth)]));
-    const first = firm.isSeller && firm.cost !== null ? inUnits(firm.cost) : 0n, template = `${firm.isSeller ? "seller" : "buyer"}-${firm.most > 1 ? "many" : "one"}`;
-    return written({name: code, ...(code === firm.name ? {} : {note: firm.name}), ...membersOf(template, {first, further, each}, own)});
+    const first = firm.isSeller && firm.cost !== null ? inUnits(firm.cost) : 0n, note = code === firm.name ? {} : {note: firm.name};
+    const template = `${firm.isSeller ? "seller" : "buyer"}-${firm.most > 1 ? "many" : "one"}`;
+    return written({name: code, ...note, ...membersOf(template, {first, further, each}, own)});
 }
 
 function documentText(version, unit, firms, trades, codes) {
@@ -139,8 +140,9 @@ export function gridIn(network, labels) {
         const trade = trades.find((each) => each.seller === seller.name && each.buyer === name);
         return trade ? shown(numbers.first + (numbers.each.get(trade.name) ?? 0n)) : "";
     };
-    return [["", labels.most, ...sellers.map(({called}) => called)], [labels.cost, "", ...sellers.map(({numbers: {first, each}}) => shown(first - ([...each.values()][0] ?? 0n)))],
-        [labels.most, "", ...sellers.map(most)], ...side("buyer").map((buyer) => [buyer.called, most(buyer), ...sellers.map((seller) => worth(seller, buyer))])];
+    const cost = ({numbers: {first, each: amounts}}) => shown(first - ([...amounts.values()][0] ?? 0n));
+    return [["", labels.most, ...sellers.map(({called}) => called)], [labels.cost, "", ...sellers.map(cost)], [labels.most, "", ...sellers.map(most)],
+        ...side("buyer").map((buyer) => [buyer.called, most(buyer), ...sellers.map((seller) => worth(seller, buyer))])];
 }
 
 /** A firm with its template, and what it is called. */

@@ -8,8 +8,10 @@ const NUMERIC = new RegExp(`^(?:capacity|value|${STEPS})$`);
 
 /** The columns of each table, as a pattern and as people read them. */
 export const COLUMNS = {
-    firms: {pattern: new RegExp(`^(?:firm|role|capacity|${STEPS}|inputs|outputs|note)$`), says: "firm, role, capacity, quantity 1, at 1, quantity 2, at 2 and so on, inputs, outputs, note"},
-    lanes: {pattern: new RegExp(`^(?:from|to|good|by|capacity|${STEPS}|note)$`), says: "from, to, good, by, capacity, quantity 1, at 1, quantity 2, at 2 and so on, note"},
+    firms: {pattern: new RegExp(`^(?:firm|role|capacity|${STEPS}|inputs|outputs|note)$`),
+        says: "firm, role, capacity, quantity 1, at 1, quantity 2, at 2 and so on, inputs, outputs, note"},
+    lanes: {pattern: new RegExp(`^(?:from|to|good|by|capacity|${STEPS}|note)$`),
+        says: "from, to, good, by, capacity, quantity 1, at 1, quantity 2, at 2 and so on, note"},
 };
 
 /** The names of the columns of a table, as its first row has them. */

@@ -9,7 +9,8 @@ import {gcd} from "./network.js";
 const LONGEST_NAME = 32;
 
 /** Letters that have no accent to take away. */
-const PLAIN_LETTERS = {ł: "l", Ł: "L", ø: "o", Ø: "O", đ: "d", Đ: "D", ß: "ss", æ: "ae", Æ: "AE", œ: "oe", Œ: "OE", þ: "th", Þ: "Th", ð: "d", Ð: "D", ı: "i"};
+const PLAIN_LETTERS = {
+    ł: "l", Ł: "L", ø: "o", Ø: "O", đ: "d", Đ: "D", ß: "ss", æ: "ae", Æ: "AE", œ: "oe", Œ: "OE", þ: "th", Þ: "Th", ð: "d", Ð: "D", ı: "i"};
 
 /** The limits by the version, the last of which has room for most. */
 const ALL = [...VERSIONS].map(([number, {most, own, amount}]) => ({number, most, own, largest: amount})), LARGE = ALL[ALL.length - 1];

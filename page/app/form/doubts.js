@@ -29,17 +29,20 @@ function lineOf(network, doubt, k) {
 
 const LINES = {
     idle: (network, {firm}) => ({says: say("doubt.idle", {firm}), mends: say("doubt.remove_firm"), change: () => firmRemoved(network, firmAt(network, firm))}),
-    sells_often: (network, {firm, count, template}) => ({says: say("doubt.sells_often", {firm, count}), mends: say("doubt.sell_one"), change: () => asTemplate(network, firmAt(network, firm), template)}),
+    sells_often: (network, {firm, count, template}) => ({says: say("doubt.sells_often", {firm, count}), mends: say("doubt.sell_one"),
+        change: () => asTemplate(network, firmAt(network, firm), template)}),
     one_sided: (network, {firm, template}) => {
         const [says, mends] = template === "seller-one" ? ["doubt.buys_none", "doubt.sell_one"] : ["doubt.sells_none", "doubt.buy_one"];
         return {says: say(says, {firm}), mends: say(mends), change: () => asTemplate(network, firmAt(network, firm), template)};
     },
-    apart: (network, {firm, template}) => ({says: say("doubt.apart", {firm}), mends: say("doubt.middleman"), change: () => asTemplate(network, firmAt(network, firm), template)}),
+    apart: (network, {firm, template}) => ({says: say("doubt.apart", {firm}), mends: say("doubt.middleman"),
+        change: () => asTemplate(network, firmAt(network, firm), template)}),
     never: (network, {firm, trade, isPaired}) => ({says: say("doubt.never", {firm, trade}), mends: say(isPaired ? "doubt.pair" : "doubt.remove_trade"),
         change: () => (isPaired ? paired(network, firm, trade) : tradesRemoved(network, [tradeAt(network, trade)]))}),
     unwanted: (network, {trade, seller, buyer, least, most}) => ({says: say("doubt.unwanted", {trade, seller, buyer, least, most}), mends: say("doubt.remove_trade"),
         change: () => tradesRemoved(network, [tradeAt(network, trade)])}),
-    all_unwanted: (network, {trades}) => ({says: say("doubt.all_unwanted", {count: trades.length, trades: listed(trades.slice(0, MOST))}), mends: say("doubt.remove_trades"),
+    all_unwanted: (network, {trades}) => ({
+        says: say("doubt.all_unwanted", {count: trades.length, trades: listed(trades.slice(0, MOST))}), mends: say("doubt.remove_trades"),
         change: () => tradesRemoved(network, trades.map((trade) => tradeAt(network, trade)))}),
 };
 

@@ -47,7 +47,8 @@ const ANEW = {ends: {}, isFree: false};
 function firmsGroup(network, names, place) {
     const options = names.map((name, k) => [`${k}`, name]);
     const add = ADDED.map(([template, letter, says]) => ({
-        ...button(`${template} add`, say(says), say(says), () => firmAdded(network, textOfNew(freeName(names, letter, String), template))),
+        ...button(`${template} add`, say(says), say(says),
+            () => firmAdded(network, textOfNew(freeName(names, letter, String), template))),
         then: {...ANEW, built: names.length}}));
     const pick = choice("firm", say("head.firm"), say("head.firm"), `${place}`, options,
         {look: (built) => ({...ANEW, built: Number(built)})});

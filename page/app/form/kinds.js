@@ -16,13 +16,15 @@ const SAYS = {
 
 /** By which words a number of a side is asked for: of the first unit, of a further one, and of a trade. */
 const ASKS = {
-    seller: ["form.sells_from", "form.costs_more", "form.sells_to", "form.cost_of"], buyer: ["form.pays_up_to", "form.worth_less", "form.buys_from", "form.worth_to"],
+    seller: ["form.sells_from", "form.costs_more", "form.sells_to", "form.cost_of"],
+    buyer: ["form.pays_up_to", "form.worth_less", "form.buys_from", "form.worth_to"],
     maker: ["form.makes_at", "form.makes_more", "form.adds", "form.cost_of"],
 };
 
 /** The templates that a firm may be of, by its trades, as options. */
 export function templatesFor(own) {
-    const isRight = (template) => !(template.startsWith("seller") && own.some(({isSale}) => !isSale)) && !(template.startsWith("buyer") && own.some(({isSale}) => isSale));
+    const has = (isSale) => own.some((trade) => trade.isSale === isSale);
+    const isRight = (template) => !(template.startsWith("seller") && has(false)) && !(template.startsWith("buyer") && has(true));
     return TEMPLATES.filter(isRight).map((template) => [template, say(SAYS[template][0])]);
 }
 
@@ -42,7 +44,8 @@ function priceOf({template, numbers}, own) {
 /** The numbers of a seller, a buyer or a maker. */
 export function templateParts(network, firm, own, kind) {
     const {template, numbers} = kind, side = sideOf(template), [first, , each, ofOne] = ASKS[side];
-    const trades = own.map(({name}) => number(`each ${name}`, name, say(ofOne, {name}), String(ofTrade(template, numbers, name)), (text) => eachPut(firm, kind, name, text)));
+    const trades = own.map(({name}) => number(`each ${name}`, name, say(ofOne, {name}), String(ofTrade(template, numbers, name)),
+        (text) => eachPut(firm, kind, name, text)));
     return [{key: "numbers", title: say("form.numbers"), lines: [
         {key: "first", controls: [firstOf(network, firm, own, kind, say(first)), ...mostOf(network, firm, kind)]},
         ...furtherLines(network, firm, kind),

@@ -4,7 +4,7 @@ import {networkOf} from "../document/state.js";
 import {made, on, part, write} from "../shell/page.js";
 import {cellName, EMPTY_SHEET, gridSheet, grown, isBlock, outcomeOf, tablesOf, withBlock, withCell, withCells} from "./sheets.js";
 
-/** How many rows of a table are shown. */
+/** How many rows of a table are shown, and more only up to the last in which something is wrong. */
 const MOST_ROWS = 100;
 
 let store = null, shown = null, structure = "";
@@ -122,8 +122,9 @@ function faultLine({says, table, row, column}) {
 
 /** The cells; they stay as long as there are as many, so that the focus does. */
 function showCells(sheet, faults) {
-    const tables = tablesOf(sheet), sizes = tables.map((name) => [name, sheet[name].rows.length, widthOf(sheet[name])]), next = JSON.stringify(sizes);
-    if (next !== structure) part("sheet-tables").replaceChildren(...tables.map((name) => tableFor(name, sheet[name])));
+    const tables = tablesOf(sheet), rowsIn = (name) => Math.max(MOST_ROWS, ...faults.filter(({table, row}) => table === name && row !== null).map(({row}) => row + 1));
+    const sizes = tables.map((name) => [name, rowsIn(name), sheet[name].rows.length, widthOf(sheet[name])]), next = JSON.stringify(sizes);
+    if (next !== structure) part("sheet-tables").replaceChildren(...tables.map((name) => tableFor(name, sheet[name], rowsIn(name))));
     structure = next;
     const wrong = new Map(faults.filter(({row}) => row !== null).map(({table, row, column, says}) => [`cell ${table} ${row} ${column ?? 0}`, says]));
     for (const input of part("sheet-tables").querySelectorAll("input")) {
@@ -138,19 +139,21 @@ function widthOf({rows}) {
     return Math.max(1, ...rows.map((row) => row.length));
 }
 
-function tableFor(name, table) {
-    const frame = made("table", "", {class: "sheet"}), rows = table.rows.slice(0, MOST_ROWS), width = widthOf(table);
+function tableFor(name, table, most) {
+    const frame = made("table", "", {class: "sheet"}), rows = table.rows.slice(0, most), width = widthOf(table);
     frame.append(...rows.map((_, row) => rowFor(name, row, width)));
     const box = made("div", "", {class: "scroll"});
     box.append(frame, ...(rows.length < table.rows.length ? [made("p", say("sheet.more_rows", {count: table.rows.length - rows.length}), {class: "quiet"})] : []));
     return box;
 }
 
+const CELL = {type: "text", autocomplete: "off", spellcheck: "false"};
+
 function rowFor(name, row, width) {
     const line = made("tr");
     line.append(...Array.from({length: width}, (_, column) => {
         const cell = made("td");
-        cell.append(made("input", "", {type: "text", size: name === "grid" ? 4 : 9, autocomplete: "off", spellcheck: "false", "aria-label": cellName(row, column), "data-key": `cell ${name} ${row} ${column}`}));
+        cell.append(made("input", "", {...CELL, size: name === "grid" ? 4 : 9, "aria-label": cellName(row, column), "data-key": `cell ${name} ${row} ${column}`}));
         return cell;
     }));
     return line;

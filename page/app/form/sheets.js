@@ -50,7 +50,8 @@ function trimmed(rows) {
 /** Which table some rows are, by the first of them. */
 function nameOf([first = []]) {
     const head = headOf(first);
-    return Object.keys(WANTED).find((name) => WANTED[name].every((column) => head.includes(column)) && head.every((column) => column === "" || COLUMNS[name].pattern.test(column))) ?? "grid";
+    const isIts = (name) => WANTED[name].every((column) => head.includes(column)) && head.every((column) => column === "" || COLUMNS[name].pattern.test(column));
+    return Object.keys(WANTED).find(isIts) ?? "grid";
 }
 
 /** The tables of a sheet that are shown, by their names. */

@@ -126,7 +126,7 @@ function bindHistory(store) {
     on("redo", () => store.act("redone"));
     document.addEventListener("keydown", (event) => {
         if (!(event.ctrlKey || event.metaKey) || event.altKey || event.defaultPrevented) return;
-        const key = event.key.toLowerCase(), isOwn = event.target.closest?.("#filter, #words, #fragment, #address, #pupil, #maker-title, #text, .CodeMirror");
+        const key = event.key.toLowerCase(), isOwn = event.target.closest?.("#filter, #words, #fragment, #address, #pupil, #maker-title, #text, #sheet input, .CodeMirror");
         if (isOwn || !["z", "y"].includes(key)) return;
         event.preventDefault();
         store.act(key === "y" || event.shiftKey ? "redone" : "undone");

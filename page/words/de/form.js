@@ -41,7 +41,7 @@ export const FORM = {
         sells_from: "Verkauft ab", costs_more: "Jedes weitere kostet mehr als das erste, um", sells_to: "Je Geschäft, ab", pays_up_to: "Zahlt bis",
         worth_less: "Jedes weitere ist weniger wert als das erste, um", buys_from: "Je Geschäft, bis", worth_to: "Was {name} wert ist", makes_at: "Macht eines für",
         makes_more: "Jedes weitere kostet mehr als das erste, um", adds: "Kostet daneben, je Geschäft", at_most: "höchstens", nth: "Nr. {count}", nth_one: "Nr. {count}: {says}",
-        add_seller: "Wer verkauft", add_buyer: "Wer kauft", add_middleman: "Zwischenhandel",
+        add_seller: "Anbieter hinzufügen", add_buyer: "Nachfrager hinzufügen", add_middleman: "Zwischenhandel hinzufügen",
         kind_asked: "Eine andere Art behält nicht alle Zahlen.", kind_change: "Art wechseln", kind_keep: "So lassen",
         the_firm: "Die Firma {name}", name_of: "Name von {name}", kind: "Art",
         remove: "Entfernen", remove_it: "Entfernen",

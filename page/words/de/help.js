@@ -9,7 +9,7 @@ export const HELP = {
         third: "Drücke „Wer widerspricht?“, und suche Preise, bei denen es niemand tut.",
     },
     tip: {
-        grid: "Eine Tabelle: wer verkauft, wer kauft, und eine Zahl in jeder Zelle.", paste: "Macht einen Markt aus Zellen, die in einer Tabellenkalkulation kopiert sind, oder aus CSV-Dateien.",
+        grid: "Eine Tabelle von Anbietern und Nachfragern, mit einer Zahl in jeder Zelle.", paste: "Macht einen Markt aus Zellen, die in einer Tabellenkalkulation kopiert sind, oder aus CSV-Dateien.",
         examples: "Öffnet ein Netz für den Anfang.", new: "Beginnt ein leeres Dokument, das im Formular gefüllt wird.",
         open: "Öffnet Dateien von diesem Gerät: Dokumente oder Ergebnisse einer Aufgabe.", save: "Gibt das Dokument als Datei.",
         link: "Macht einen Link und einen Code für Kameras, der die Seite mit diesem Dokument öffnet.",

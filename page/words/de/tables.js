@@ -1,10 +1,10 @@
 // Tabellen, die getippt, eingefügt und abgelegt werden: was darin falsch ist, und wie ein Markt daraus wird.
 export const TABLES = {
     sheet: {
-        title: "Tabellen, aus denen ein Markt wird", grid: "Wer verkauft und wer kauft, als Tabelle", paste: "Tabellen einfügen", make: "Markt daraus machen", add_seller: "Verkauf: eine Spalte mehr", add_buyer: "Kauf: eine Zeile mehr",
+        title: "Tabellen, aus denen ein Markt wird", grid: "Anbieter und Nachfrager als Tabelle", paste: "Tabellen einfügen", make: "Markt daraus machen", add_seller: "Ein Anbieter mehr", add_buyer: "Ein Nachfrager mehr",
         pasted: "Zellen hier einfügen", lot: "Ein Los ist", unit: "eine Geldeinheit ist", round: "runden, was ein Los kostet", found: "gefunden",
         the_grid: "Tabelle", the_firms: "Firmen", the_lanes: "Wege", is_made: "Das Dokument ist dieser Markt.",
-        wanted: "Kopiere Zellen in einer Tabellenkalkulation und füge sie hier ein: wer verkauft nach rechts, wer kauft nach unten; oder eine Tabelle mit Firmen und eine mit Wegen. Eine CSV-Datei kann auf der Seite abgelegt werden.",
+        wanted: "Kopiere Zellen in einer Tabellenkalkulation und füge sie hier ein: Anbieter nach rechts, Nachfrager nach unten; oder eine Tabelle mit Firmen und eine mit Wegen. Eine CSV-Datei kann auf der Seite abgelegt werden.",
         firms_wanted: "Füge jetzt die Tabelle der Firmen ein: firm, role, capacity und Kosten.", lanes_wanted: "Füge jetzt die Tabelle der Wege ein: from, to, good, capacity und Kosten.",
         grid_made: "{sellers} nach rechts, {buyers} nach unten, {trades} Geschäfte.", whole: "Alle Zahlen sind ganz und stehen im Dokument so, wie sie sind.",
         scale: "Das Dokument zählt in {unit}, 1 ist dort also {count}.", tables_made: "Ein Los ist {lot}, und das Dokument zählt Geld in {unit}.",

@@ -9,6 +9,7 @@ import {gridIn, MARGINS, marketOf, wholeGrid} from "../../../page/read/grid.js";
 import {networkOf, tableOf} from "../../../page/read/lanes.js";
 import {documentOf} from "../../../page/read/lots.js";
 import {Network} from "../../../page/read/network.js";
+import {templateOf} from "../../../page/read/templates.js";
 import {saysFault} from "../../../page/say/tables.js";
 import {LANGUAGES} from "../../../page/words/say.js";
 import {answersOf} from "../ask.mjs";
@@ -84,4 +85,10 @@ test("what is no grid isn't one", () => {
     assert.deepEqual(["houses", "lesson/2-assignment", "lesson/1-one-good"].map(isOne), [true, true, true]);
     assert.deepEqual(["used-cars", "lesson/3-middleman", "lesson/4-substitutes", "plant", "supply-chain"].map(isOne), [false, false, false, false, false]);
     assert.deepEqual(Object.keys(LANGUAGES).map((each) => [LANGUAGES[each].table.sheet.cost, LANGUAGES[each].table.sheet.at_most].every((word, k) => [MARGINS.cost, MARGINS.most][k].includes(word.toLowerCase()))), [true, true]);
+});
+
+test("what tools/lanes makes is known by its kinds", () => {
+    const network = new Network(made[0].document), {firms, trades} = network.data;
+    const kinds = firms.map((firm) => templateOf(firm, trades.filter(({seller, buyer}) => [seller, buyer].includes(firm.name)).map(({name, seller}) => ({name, isSale: seller === firm.name}))).template);
+    assert.deepEqual(kinds, ["seller-many", "seller-many", "maker", "buyer-many", "buyer-many"]);
 });
