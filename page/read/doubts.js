@@ -9,16 +9,12 @@ const NEVER = Symbol("never");
 /** What is doubted of a market: a list of `{kind, firm}` or `{kind, trade, ..}`. */
 export function doubtsOf(network) {
     const firms = itemsOf(network.data.firms).filter((firm) => isObject(firm) && typeof firm.name === "string");
-    const known = new Map(firms.map((firm) => [firm.name, {firm, own: ownOf(network, firm.name)}]));
-    const doubts = [...known.values()].flatMap(({firm, own}) => ofFirm(network, firm, own)), done = new Set(doubts.map(({firm}) => firm));
+    const known = new Map(firms.map((firm) => [firm.name, {firm, own: network.ownTrades(firm.name)}]));
+    const doubts = [...known.values()].flatMap(({firm, own}) => ofFirm(firm, own)), done = new Set(doubts.map(({firm}) => firm));
     return [...doubts, ...network.trades.flatMap((trade) => ofTrade(known, trade)).filter(({firm}) => !done.has(firm))];
 }
 
-function ownOf(network, name) {
-    return network.trades.filter(({seller, buyer}) => seller === name || buyer === name).map((trade) => ({...trade, isSale: trade.seller === name}));
-}
-
-function ofFirm(network, firm, own) {
+function ofFirm(firm, own) {
     if (own.length === 0) return [{kind: "idle", firm: firm.name}];
     const isOneSided = new Set(own.map(({isSale}) => isSale)).size === 1, {template} = templateOf(firm, own);
     const passes = ["maker", "dealer"].includes(template) || (template === "middleman" && typeof firm.keep !== "bigint");

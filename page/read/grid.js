@@ -3,6 +3,7 @@
 import {decimalIn, digits, each, faultAt, measureOf, plainText, throwAll} from "./cells.js";
 import {Fraction, ONE} from "./fractions.js";
 import {written} from "./json.js";
+import {LARGEST} from "./limits.js";
 import {amountIn, codesOf, unitFor, versionFor} from "./lots.js";
 import {isObject, itemsOf} from "./network.js";
 import {membersOf, sideOf, templateOf} from "./templates.js";
@@ -49,7 +50,7 @@ export function marketOf(cells, between) {
     nameTrades(trades, codes);
     const own = (firm) => trades.filter(({seller, buyer}) => seller === firm || buyer === firm), firms = [...sellers, ...buyers];
     const version = versionFor(Math.max(firms.length, trades.length), Math.max(...firms.map((firm) => Math.max(own(firm).length, firm.most))));
-    if (version === null) throw faultAt({table: TABLE}, "sheet.too_large");
+    if (version === null) throw faultAt({table: TABLE}, "sheet.too_large", {most: LARGEST.most, own: LARGEST.own});
     const inUnits = (measure) => amountIn(version, unit, measure, faults);
     const texts = firms.map((firm) => firmText(firm, codes.get(firm.name), own(firm), inUnits));
     throwAll(faults);
@@ -83,7 +84,7 @@ function mostAt(cell, decimal) {
     const measure = numberAt(cell, decimal);
     if (measure === null) return 1;
     const {numerator, denominator} = measure.value;
-    if (denominator !== 1n || numerator < 1n || numerator > 60n) throw faultAt(cell.place, "sheet.capacity_wanted", {text: cell.text, most: 60});
+    if (denominator !== 1n || numerator < 1n || numerator > BigInt(LARGEST.own)) throw faultAt(cell.place, "sheet.capacity_wanted", {text: cell.text, most: LARGEST.own});
     return Number(numerator);
 }
 
@@ -131,7 +132,7 @@ function documentText(version, unit, firms, trades, codes) {
  * `labels` are those of the margins.
  */
 export function gridIn(network, labels) {
-    const {trades} = network, firms = itemsOf(network.data.firms).filter(isObject).map((firm) => knownFirm(firm, trades));
+    const {trades} = network, firms = itemsOf(network.data.firms).filter(isObject).map((firm) => knownFirm(network, firm));
     const pairs = new Set(trades.map(({seller, buyer}) => `${seller} ${buyer}`));
     if (trades.length === 0 || pairs.size < trades.length || !firms.every(isOfGrid)) return null;
     const side = (name) => firms.filter(({template}) => sideOf(template) === name), unit = unitOf(network), shown = (number) => digits(new Fraction(number).times(unit), 12);
@@ -146,10 +147,10 @@ export function gridIn(network, labels) {
 }
 
 /** A firm with its template, and what it is called. */
-function knownFirm(firm, trades) {
-    const own = trades.filter(({seller, buyer}) => [seller, buyer].includes(firm.name)), {name, note} = firm;
+function knownFirm(network, firm) {
+    const own = network.ownTrades(firm.name), {name, note} = firm;
     const called = typeof note === "string" && note !== "" ? note : String(name);
-    return {...templateOf(firm, own.map((trade) => ({name: trade.name, isSale: trade.seller === name}))), name, called, count: own.length};
+    return {...templateOf(firm, own), name, called, count: own.length};
 }
 
 /** Whether a grid says all of a firm: no further unit differs, and a seller has one cost for all. */

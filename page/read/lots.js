@@ -13,7 +13,7 @@ const PLAIN_LETTERS = {
     ł: "l", Ł: "L", ø: "o", Ø: "O", đ: "d", Đ: "D", ß: "ss", æ: "ae", Æ: "AE", œ: "oe", Œ: "OE", þ: "th", Þ: "Th", ð: "d", Ð: "D", ı: "i"};
 
 /** The limits by the version, the last of which has room for most. */
-const ALL = [...VERSIONS].map(([number, {most, own, amount}]) => ({number, most, own, largest: amount})), LARGE = ALL[ALL.length - 1];
+const ALL = [...VERSIONS].map(([number, {most, own, amount}]) => ({number, most, own, largest: amount})), LARGE = ALL.at(-1);
 
 /**
  * The document of a network, with the sizes that were taken: `{document, lot, unit}`, where the document is its text. A lot or a unit that
@@ -114,7 +114,7 @@ function built({firms, lanes}, sizes) {
 /** An amount that a version has room for. */
 function small({largest, number}, amount, place) {
     if ((amount < 0n ? -amount : amount) <= largest) return amount;
-    const few = ALL[ALL.length - 2], values = {amount: String(amount), largest: String(largest), few: few.most, own: few.own};
+    const few = ALL.at(-2), values = {amount: String(amount), largest: String(largest), few: few.most, own: few.own};
     throw faultAt(place, number === LARGE.number ? "sheet.large_amount_of_many" : "sheet.large_amount", values);
 }
 

@@ -44,11 +44,26 @@ export class Network {
         return this.trades.filter(({name}) => wanted.has(name) && this.isOf(name, firm)).map(({name}) => name);
     }
 
+    /** The trades of a firm, in the order of the document, each with whether it is a sale. */
+    ownTrades(firm) {
+        this.byFirm ??= ownByFirm(this.trades);
+        return this.byFirm.get(firm) ?? [];
+    }
+
     /** The names of the firms that stand before one in the document. */
     before(firm) {
         const names = this.firms.map(({name}) => name);
         return names.slice(0, Math.max(names.indexOf(firm), 0));
     }
+}
+
+function ownByFirm(trades) {
+    const found = new Map(), add = (firm, trade) => found.set(firm, [...(found.get(firm) ?? []), trade]);
+    for (const trade of trades) {
+        add(trade.seller, {...trade, isSale: true});
+        if (trade.buyer !== trade.seller) add(trade.buyer, {...trade, isSale: false});
+    }
+    return found;
 }
 
 export function isObject(value) {

@@ -5,28 +5,14 @@ import {amountFor, countedBy, goingOn, membersOf, setOf, sideOf, templateOf} fro
 import {itemsIn, numbered, objectsIn, textAt} from "./building.js";
 import {added, applied, memberOf, put, replaced, without} from "./edits.js";
 
-const owns = new WeakMap();
-
-/** The trades of a firm, each with whether it is a sale. */
-export function ownTrades(network, firm) {
-    if (!owns.has(network)) owns.set(network, allOwn(network));
-    return owns.get(network).get(firm) ?? [];
-}
-
-/** The trades of all firms, by their names. */
-function allOwn(network) {
-    const found = new Map(), add = (firm, trade) => found.set(firm, [...(found.get(firm) ?? []), trade]);
-    for (const {node, name} of objectsIn(network, "trades")) {
-        const [seller, buyer] = [textAt(node, "seller"), textAt(node, "buyer")];
-        add(seller, {name, isSale: true});
-        if (buyer !== seller) add(buyer, {name, isSale: false});
-    }
-    return found;
+/** The trades of a firm. */
+function ownOf(network, firm) {
+    return network.ownTrades(textAt(firm, "name"));
 }
 
 /** The template of a firm, with its numbers. */
 export function kindOf(network, firm) {
-    return templateOf(plain(firm), ownTrades(network, textAt(firm, "name")));
+    return templateOf(plain(firm), ownOf(network, firm));
 }
 
 /** A new firm of a template, as text. */
@@ -49,7 +35,7 @@ function hasNumbers({numbers}) {
 
 /** The edits that make a firm one of another template: its name and note stay, and those of its numbers that the template has. */
 export function asTemplate(network, firm, template) {
-    const own = ownTrades(network, textAt(firm, "name")), before = templateOf(plain(firm), own);
+    const own = ownOf(network, firm), before = templateOf(plain(firm), own);
     const each = new Map(itemsIn(firm, "amounts").map(({value: [name, number]}) => [name?.value, plain(number)]));
     const members = membersOf(template, goingOn(template, {...before, each}, own), own);
     const kept = ["name", "note"].filter((name) => firm.value.has(name)).map((name) => {
@@ -62,7 +48,7 @@ export function asTemplate(network, firm, template) {
 /** The edits that give a firm of a template other numbers in its set. */
 function setPut(network, firm, {template, numbers}) {
     const side = sideOf(template), set = countingSet(firm, template), {from, values} = setOf(side, numbers);
-    if (set === null) return put(firm, "sets", written(membersOf(template, numbers, ownTrades(network, textAt(firm, "name"))).sets));
+    if (set === null) return put(firm, "sets", written(membersOf(template, numbers, ownOf(network, firm)).sets));
     return [...put(set, "from", `${from}`), ...put(set, "values", written(values))];
 }
 
@@ -102,7 +88,7 @@ export function settled(network, edits) {
 
 /** The edits that put the trades of a firm into the sets of its template, where they lack some. */
 function joining(network, firm, kind) {
-    const side = kind === undefined ? null : sideOf(kind.template), own = ownTrades(network, textAt(firm, "name"));
+    const side = kind === undefined ? null : sideOf(kind.template), own = ownOf(network, firm);
     if (side === null) return [];
     const set = countingSet(firm, kind.template), sets = (memberOf(firm, "sets", "list")?.value ?? []);
     if (set === null) return countedBy(side, own).length > 1 ? setPut(network, firm, kind) : [];

@@ -3,7 +3,7 @@ import {doubtsOf} from "../../read/doubts.js";
 import {listed} from "../../say/words.js";
 import {say} from "../../words/say.js";
 import {firmRemoved, itemsAdded, objectsIn, tradesRemoved} from "../document/building.js";
-import {asTemplate, ownTrades} from "../document/kinds.js";
+import {asTemplate} from "../document/kinds.js";
 import {button} from "./parts.js";
 
 /** How many doubts are shown at once. */
@@ -56,6 +56,6 @@ function tradeAt(network, name) {
 
 /** The edits that pair a trade of a dealer with all of the other side, at no cost. */
 function paired(network, firm, trade) {
-    const own = ownTrades(network, firm), {isSale} = own.find(({name}) => name === trade), others = own.filter((each) => each.isSale !== isSale).map(({name}) => name);
+    const own = network.ownTrades(firm), {isSale} = own.find(({name}) => name === trade), others = own.filter((each) => each.isSale !== isSale).map(({name}) => name);
     return itemsAdded(firmAt(network, firm), "pairs", others.map((other) => JSON.stringify([...(isSale ? [other, trade] : [trade, other]), 0])));
 }

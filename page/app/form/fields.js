@@ -7,7 +7,7 @@ import {
     stretched, textAt, toggled, tradeAdded, tradesRemoved,
 } from "../document/building.js";
 import {memberOf, put, replaced} from "../document/edits.js";
-import {asTemplate, kindOf, ownTrades, settled, textOfNew, wouldLose} from "../document/kinds.js";
+import {asTemplate, kindOf, settled, textOfNew, wouldLose} from "../document/kinds.js";
 import {doubtsGroup} from "./doubts.js";
 import {doesOf, templateParts, templatesFor} from "./kinds.js";
 import {calledBy, shownName, whyNoName} from "./naming.js";
@@ -57,7 +57,7 @@ function firmsGroup(network, names, place) {
 
 /** The parts of the form that are of one firm. */
 function ofFirm(network, {node, name}, names, asked, isFree) {
-    const known = kindOf(network, node), kind = isFree && known.numbers !== null ? {template: "laminar", numbers: null} : known, remove = () => firmRemoved(network, node), own = ownTrades(network, name);
+    const known = kindOf(network, node), kind = isFree && known.numbers !== null ? {template: "laminar", numbers: null} : known, remove = () => firmRemoved(network, node), own = network.ownTrades(name);
     const head = [
         nameOf("firm name", ["head.name", "form.name_of"], network, "firms", node, names),
         {...choice("firm kind", say("form.kind"), say("form.kind"), kind.template, templatesFor(own)), ...kindChosen(network, node, known)},

@@ -1,6 +1,6 @@
 // Tables that are to become a market, as plain data: a grid, or firms and lanes. Each is rows of cells with what parted them; what is made
 // of them, or what is wrong at which cell, comes of them anew each time.
-import {digits, Faults, letterOf, measureOf, plainText, rowsIn, separatorOf} from "../../read/cells.js";
+import {digits, each, Faults, letterOf, measureOf, plainText, rowsIn, separatorOf} from "../../read/cells.js";
 import {emptyGrid, gridIn, marketOf, wholeGrid} from "../../read/grid.js";
 import {COLUMNS, headOf, networkOf} from "../../read/lanes.js";
 import {documentOf} from "../../read/lots.js";
@@ -118,18 +118,10 @@ function ofTables({firms, lanes, lot, unit, isRounded}) {
     return {text: made.document, faults: [], says: say("sheet.tables_made", {lot: digits(made.lot, 12), unit: digits(made.unit, 12)})};
 }
 
-/** A size that was typed, above 0; null where it is to be found. */
+/** A size that was typed, above 0; null where it is to be found, or isn't whole yet. */
 function sizeIn(text) {
-    const size = whatIs(text);
-    return size !== null && size.numerator > 0n ? size : null;
-}
-
-function whatIs(text) {
-    try {
-        return measureOf(plainText(text), {table: "lanes"}, text.includes(",") ? "," : ".").value;
-    } catch {
-        return null;
-    }
+    const [found] = each([plainText(text)], (typed) => measureOf(typed, {}, typed.includes(",") ? "," : ".").value, []);
+    return found !== undefined && found.numerator > 0n ? found : null;
 }
 
 /** The cell of a fault's place: of one that only has the name of its column, by the head. */

@@ -10,7 +10,7 @@ export const TABLES = {
         scale: "Das Dokument zählt in {unit}, 1 ist dort also {count}.", tables_made: "Ein Los ist {lot}, und das Dokument zählt Geld in {unit}.",
         more_rows: {one: "{count} weitere Zeile wird nicht gezeigt.", other: "{count} weitere Zeilen werden nicht gezeigt."}, no_utf8: "{name} ist kein UTF-8: speichere die Tabelle als CSV in UTF-8.",
         same_name: "{text} gibt es schon", capacity_wanted: "{text} ist keine Kapazität, eine ganze Zahl von 1 bis {most}", no_worths: "Tippe, was jedes Ding beim Kauf wert ist. Keine Zahl heißt: kein Geschäft.",
-        too_large: "das ist größer, als ein Dokument sein darf: 1.024 Firmen und Geschäfte, 60 bei einer Firma", cost: "Kosten", at_most: "höchstens",
+        too_large: "das ist größer, als ein Dokument sein darf: {most} Firmen und Geschäfte und {own} Geschäfte einer Firma", cost: "Kosten", at_most: "höchstens",
         row: "{table}, Zeile {row}", column: "{row}, Spalte {column}", missing_column: "{row}, Spalte {column}, die fehlt",
         no_table: "das ist keine Tabelle mit Zellen, zwischen denen '{sign}' steht: Anführungszeichen sind offen, oder es steht etwas dahinter",
         no_number: "{text} ist keine Zahl", below_zero: "{text} ist kleiner als 0",

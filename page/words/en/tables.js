@@ -10,7 +10,7 @@ export const TABLES = {
         scale: "The document counts in {unit}, so 1 is {count} there.", tables_made: "A lot is {lot}, and the document counts money in {unit}.",
         more_rows: {one: "{count} more row isn't shown.", other: "{count} more rows aren't shown."}, no_utf8: "{name} is no UTF-8: save the table as CSV in UTF-8.",
         same_name: "{text} is there already", capacity_wanted: "{text} is no capacity, a whole number from 1 to {most}", no_worths: "Type what each thing is worth to each buyer. No number: no trade.",
-        too_large: "this is larger than a document may be: 1,024 firms and trades, 60 at a firm", cost: "cost", at_most: "at most",
+        too_large: "this is larger than a document may be: {most} firms and trades, and {own} trades of a firm", cost: "cost", at_most: "at most",
         row: "{table}, row {row}", column: "{row}, column {column}", missing_column: "{row}, column {column}, which isn't there",
         no_table: "this is no table of cells parted by '{sign}': a quote isn't closed, or something stands behind it",
         no_number: "{text} is no number", below_zero: "{text} is below 0",

@@ -88,7 +88,7 @@ test("what is no grid isn't one", () => {
 });
 
 test("what tools/lanes makes is known by its kinds", () => {
-    const network = new Network(made[0].document), {firms, trades} = network.data;
-    const kinds = firms.map((firm) => templateOf(firm, trades.filter(({seller, buyer}) => [seller, buyer].includes(firm.name)).map(({name, seller}) => ({name, isSale: seller === firm.name}))).template);
+    const network = new Network(made[0].document);
+    const kinds = network.data.firms.map((firm) => templateOf(firm, network.ownTrades(firm.name)).template);
     assert.deepEqual(kinds, ["seller-many", "seller-many", "maker", "buyer-many", "buyer-many"]);
 });

@@ -42,7 +42,7 @@ test("further units stay in order, whichever is changed", () => {
 
 /** The entries that make a document by the form from nothing, firm by firm and trade by trade. */
 function entriesFor(network) {
-    const firms = network.data.firms.filter(isObject), ownBy = (name) => network.trades.filter(({seller, buyer}) => [seller, buyer].includes(name)).map((trade) => ({name: trade.name, isSale: trade.seller === name}));
+    const firms = network.data.firms.filter(isObject), ownBy = (name) => network.ownTrades(name);
     const begun = firms.flatMap((firm) => [["seller-one add"], ["firm name", firm.name], ["firm kind", templateOf(asBuyer(firm), ownBy(firm.name)).template]]);
     const trades = network.trades.flatMap(({name, seller, buyer}, k) => [["new seller", seller], ["new buyer", buyer], ["trade add"], [`trade ${k} name`, name]]);
     return [...begun, ...trades, ...firms.flatMap((firm, k) => [["firm", `${k}`], ...numbersFor(asBuyer(firm), ownBy(firm.name))])];
