@@ -5,7 +5,7 @@ import csv
 import io
 from fractions import Fraction
 
-from lanes_lib.tables import Form, digits
+from trading_networks.tables import Form, digits
 
 LETTERS = "abcńłøßéŐЖ北 -_.'()&;,\"=@+"
 

@@ -8,8 +8,8 @@ from dataclasses import dataclass, field
 from pathlib import Path
 
 ROOT = Path(__file__).resolve().parents[2]
-sys.path.insert(0, str(ROOT / "tools"))
-from served import program_at  # noqa: E402
+sys.path[:0] = [str(ROOT / "tools"), str(ROOT / "package")]
+from trading_networks.served import program_at  # noqa: E402
 
 COMMANDS = [["check"], ["firms"], ["test"], ["support"], ["solve"], ["solve", "--csv"], ["solve", "--csv=wide"], ["range"], ["range", "--csv"], ["session"],
             ["firms", "--csv"], ["support", "--csv"], ["judge"], ["replay"]]

@@ -1,5 +1,5 @@
 // What is wanted where in a document, as docs/FORMAT.md has it: the program decides by its own rules, and sentences about faults look
-// here for the members of an object and for what a value should have been. tools/market_faults.py has the same tables.
+// here for the members of an object and for what a value should have been. package/trading_networks/faults.py has the same tables.
 
 /** Shapes by their names. An object has members that it needs and may have, each with its shape; a list has the shape of each item, or one for each place. */
 export const SHAPES = {

@@ -1,5 +1,5 @@
 // Faults in words: what is wrong, where it stands, and what stands there beside what is wanted. The number, the name and the place are
-// the program's; the last sentence is also what tools/market_faults.py says.
+// the program's; the last sentence is also what package/trading_networks/faults.py says.
 import {find, lineAndColumn, plain} from "../read/json.js";
 import {say} from "../words/say.js";
 import {limitLine, overLine, rangeLine} from "./bounds.js";

@@ -11,7 +11,7 @@ import sys
 from fuzz_lib.documents import CLAIMS, NO, add_parts, at_limit, change, spoil, usable_after
 from fuzz_lib.faults import first_fault
 from fuzz_lib.network import Network, first_triple, payments, takes_all
-from served import program_at
+from trading_networks.served import program_at
 
 HOME = pathlib.Path(__file__).resolve().parent.parent.parent
 ASKED = ("check", "firms", "test", "support", "solve", "judge", "range", "session")

@@ -1,1 +1,1 @@
-"""What tools/lanes is made of: tables of firms and lanes, the document that they make, and what its answers say."""
+"""What tools/lanes is made of beside the package, which makes the document: what its answers say, as tables."""

@@ -10,8 +10,9 @@ import math
 from dataclasses import dataclass
 from typing import Iterator, Optional
 
-from .document import LARGE, Version, version_for
-from .tables import Trouble
+from trading_networks.lanes import LARGE
+from trading_networks.tables import Trouble
+from trading_networks.versions import Version, version_of_lots
 
 
 @dataclass(frozen=True)
@@ -120,7 +121,7 @@ def trades_of(flow: Flow, lot: int) -> tuple[list[tuple[str, Arc, int]], Version
                               "or go, which is the most")
         if len(trades) > LARGE.most:
             raise Trouble(f"{arc.place}: with this arc there are more than {LARGE.most} lots, which is the most")
-    return trades, version_for(max(flow.size, len(trades)), max(own.values(), default=0))
+    return trades, version_of_lots(max(flow.size, len(trades)), max(own.values(), default=0))
 
 
 def firm_of(number: int, supply: int, worth: int, trades: list[tuple[str, Arc, int]]) -> dict:

@@ -3,9 +3,8 @@ from __future__ import annotations
 
 from typing import Iterable, Iterator, Optional
 
-import market
-
-from .tables import Trouble
+import trading_networks as market
+from trading_networks.tables import Trouble
 
 
 class Program:
@@ -14,14 +13,14 @@ class Program:
     def __init__(self, path: str):
         self.path = path
 
-    def run(self, command: str, document: market.Document) -> dict:
+    def run(self, command: str, document: market.Asked) -> dict:
         """The answer to a document; it is raised where there is no verdict."""
         try:
             return market.ask(command, document, program=self.path)
         except market.MarketError as error:
             raise Trouble(f"{self.path} {command}: {error}") from None
 
-    def ask_each(self, command: str, documents: Iterable[market.Document]) -> Iterator[dict]:
+    def ask_each(self, command: str, documents: Iterable[market.Asked]) -> Iterator[dict]:
         """The answers to documents, in their order, by one process; it is raised where one has no verdict."""
         try:
             for answer in market.stream(command, documents, program=self.path):
@@ -33,7 +32,7 @@ class Program:
 
 
 def program_of(path: Optional[str]) -> Program:
-    """The program that is named, or else the one that tools/market.py finds."""
+    """The program that is named, or else the one that the package finds."""
     try:
         return Program(market.find(path))
     except market.NoProgram as error:

@@ -9,10 +9,11 @@ from dataclasses import dataclass, replace
 from fractions import Fraction
 from typing import Iterable, Iterator, Optional
 
-from .document import Built, Lot, Sizes, build, built_or_why
-from .network import SELLS, Firm, Lane, Network, Schedule
+from trading_networks.lane_tables import SELLS, Firm, Lane, Network, Schedule
+from trading_networks.lanes import Built, Lot, Sizes, build, built_or_why
+from trading_networks.tables import Trouble
+
 from .program import Program
-from .tables import Trouble
 
 LANE_HEAD = ("from", "to", "good", "by", "capacity", "flow", "price from", "price to", "lowest", "highest", "freight",
              "paid")

@@ -5,11 +5,12 @@ import re
 from dataclasses import dataclass, replace
 from typing import Iterator, Optional, Union
 
-from .document import Built, Sizes, built_or_why
-from .network import FIRM_COLUMNS, LANE_COLUMNS, Network, network_of
+from trading_networks.lane_tables import FIRM_COLUMNS, LANE_COLUMNS, Network, network_of
+from trading_networks.lanes import Built, Sizes, built_or_why
+from trading_networks.tables import NUMERIC, Cell, Row, Table, Trouble, digits
+
 from .program import Program
 from .report import Standing, content_firms, solved, with_arrangement
-from .tables import NUMERIC, Cell, Row, Table, Trouble, digits
 
 COLUMNS = re.compile(r"scenario|firm|from|to|good|by|change|value|note")
 ALL = "*"

@@ -1,4 +1,4 @@
-// What is wrong with a document, where, and what is wanted there. tools/market_faults.py has the texts of its sentences as they are here.
+// What is wrong with a document, where, and what is wanted there. package/trading_networks/faults.py has the texts of its sentences as they are here.
 export const FAULTS = {
     fault: {
         head: "The document has a fault, and nothing is said of its firms and prices: {cause} (fault {fault}, "

@@ -4,10 +4,12 @@ from __future__ import annotations
 import re
 from dataclasses import dataclass, field, replace
 from fractions import Fraction
-from typing import Callable, Iterable, Iterator, Optional
+from typing import Callable, Iterable, Iterator, Optional, TypeVar
 
 from .tables import STEPS, Cell, Measure, Row, Table, Trouble, digits, raise_all
 
+Part = TypeVar("Part")
+Read = TypeVar("Read")
 SELLS, MAKES, PASSES_ON, BUYS = ROLES = ("sells", "makes", "passes on", "buys")
 FIRM_COLUMNS = re.compile(rf"firm|role|capacity|{STEPS}|inputs|outputs|note")
 LANE_COLUMNS = re.compile(rf"from|to|good|by|capacity|{STEPS}|note")
@@ -68,8 +70,11 @@ class Network:
         self.by_name.update((firm.name, firm) for firm in self.firms)
 
     def schedules(self) -> Iterator[Schedule]:
-        for part in (*self.firms, *self.lanes):
-            yield part.schedule
+        yield from (firm.schedule for firm in self.firms)
+        yield from (lane.schedule for lane in self.lanes)
+
+
+Named = TypeVar("Named", Firm, Lane)
 
 
 def network_of(firms: Table, lanes: Table) -> Network:
@@ -88,7 +93,7 @@ def network_of(firms: Table, lanes: Table) -> Network:
     return network
 
 
-def each(parts: Iterable, read: Callable[[object], object], troubles: list[str]) -> list:
+def each(parts: Iterable[Part], read: Callable[[Part], Read], troubles: list[str]) -> list[Read]:
     """What is read of each part, where nothing is wrong with it."""
     found = []
     for part in parts:
@@ -99,7 +104,7 @@ def each(parts: Iterable, read: Callable[[object], object], troubles: list[str])
     return found
 
 
-def same_names(parts: list, name_of: Callable[[object], object], troubles: list[str]) -> None:
+def same_names(parts: list[Named], name_of: Callable[[Named], object], troubles: list[str]) -> None:
     seen: dict[object, int] = {}
     for part in parts:
         name = name_of(part)
@@ -122,9 +127,9 @@ def firm_of(row: Row) -> Firm:
 
 
 def lane_of(row: Row) -> Lane:
-    ends = [wanted(row[column], "a lane goes from a firm to a firm") for column in ("from", "to")]
+    source, target = (wanted(row[column], "a lane goes from a firm to a firm") for column in ("from", "to"))
     schedule = schedule_of(row)
-    return Lane(*ends, row["good"].text, row["by"].text, schedule, row.number, row.place)
+    return Lane(source, target, row["good"].text, row["by"].text, schedule, row.number, row.place)
 
 
 def wanted(cell: Cell, what: str) -> str:
@@ -162,7 +167,7 @@ def schedule_of(row: Row) -> Schedule:
 def bounded(capacity: Optional[Measure], steps: list[Step]) -> Schedule:
     last = steps[-1]
     if last.quantity is not None:
-        total = sum(step.quantity.value for step in steps)
+        total = sum((step.quantity.value for step in steps if step.quantity), Fraction(0))
         if capacity is None:
             capacity = last.quantity.with_value(total)
         elif capacity.value > total:

@@ -107,7 +107,7 @@ def letter_of(index: int) -> str:
     return (letter_of(index // 26 - 1) if index >= 26 else "") + chr(ord("A") + index % 26)
 
 
-def read_table(path: str, columns: re.Pattern, separator: Optional[str] = None, decimal: Optional[str] = None) -> Table:
+def read_table(path: str, columns: re.Pattern[str], separator: Optional[str] = None, decimal: Optional[str] = None) -> Table:
     """Reads a table whose first row names its columns, each by a text of `columns`; empty rows are passed over.
 
     A separator or a decimal sign that isn't given is seen from the file.
@@ -149,7 +149,7 @@ def seen_decimal(head: list[str], lines: Iterable[list[str]], separator: str) ->
     return "," if separator != "," and is_comma else "."
 
 
-def head_of(path: str, line: list[str], columns: re.Pattern) -> list[str]:
+def head_of(path: str, line: list[str], columns: re.Pattern[str]) -> list[str]:
     head = [plain(name).lower().replace("_", " ") for name in line]
     for k, name in enumerate(head):
         place = f"{path}, row 1, column {letter_of(k)}"
@@ -160,7 +160,7 @@ def head_of(path: str, line: list[str], columns: re.Pattern) -> list[str]:
     return head
 
 
-def named(columns: re.Pattern) -> str:
+def named(columns: re.Pattern[str]) -> str:
     """The names of columns, as people read them."""
     return columns.pattern.replace(STEPS, "quantity 1|at 1|quantity 2|at 2 and so on").replace("|", ", ")
 

@@ -8,49 +8,18 @@ of units before anything is added to it, so that costs that rise from step to st
 from __future__ import annotations
 
 import math
-import re
-import unicodedata
 from dataclasses import dataclass
 from fractions import Fraction
-from itertools import accumulate
-from typing import Iterable, Iterator, Optional, Union
+from typing import Any, Iterable, Iterator, Mapping, Optional, Union
 
-from .network import BUYS, SELLS, Firm, Lane, Network, Schedule, each
+from . import kinds
+from .kinds import Json, Manner, Steps
+from .lane_tables import BUYS, SELLS, Firm, Lane, Network, Schedule, each
+from .names import codes_of
 from .tables import Measure, Trouble, digits, raise_all
+from .versions import OF_LOTS, Version, version_of_lots
 
-LONGEST_NAME = 32
-# letters that have no accent to take away
-PLAIN_LETTERS = str.maketrans({
-    "ł": "l", "Ł": "L", "ø": "o", "Ø": "O", "đ": "d", "Đ": "D", "ß": "ss", "æ": "ae", "Æ": "AE", "œ": "oe", "Œ": "OE",
-    "þ": "th", "Þ": "Th", "ð": "d", "Ð": "D", "ı": "i"})
-
-
-@dataclass(frozen=True)
-class Version:
-    """A version of documents: the most firms, and the most trades; the most trades of a firm; the largest number of a
-    firm."""
-    number: int
-    most: int
-    most_own: int
-    largest: int
-
-    def small(self, amount: int, place: str) -> int:
-        if abs(amount) <= self.largest:
-            return amount
-        few, where, advice = VERSIONS[-2], "", "take a larger --unit"
-        if self is LARGE:
-            where = f" where there are more than {few.most} firms or lots, or more than {few.most_own} lots at a firm"
-            advice += ", or a larger --lot, so that there are fewer"
-        raise Trouble(f"{place}: this comes to {amount} units of money, and {self.largest} is the most{where}: {advice}")
-
-
-VERSIONS = (Version(1, 64, 32, 10 ** 9), Version(2, 128, 32, 10 ** 9), Version(3, 1024, 60, 10 ** 7))
-LARGE = VERSIONS[-1]
-
-
-def version_for(count: int, own: int) -> Version:
-    """The first version with room for so many firms and so many trades, and so many trades of a firm."""
-    return next(version for version in VERSIONS if count <= version.most and own <= version.most_own)
+LARGE = OF_LOTS[-1]
 
 
 @dataclass(frozen=True)
@@ -78,7 +47,7 @@ class Sizes:
                           "take a smaller --unit, or --round")
         return int(amount)
 
-    def note(self) -> dict:
+    def note(self) -> Json:
         return {"lot": digits(self.lot, 12), "unit": digits(self.unit, 12), "rounded": self.is_rounded}
 
 
@@ -96,6 +65,10 @@ class LotSchedule:
             listed += [amount] * (left if lots is None else min(lots, left))
         return listed
 
+    def limited(self) -> Steps:
+        """The steps up to the capacity."""
+        return kinds.up_to(self.capacity, [(lots, Fraction(amount)) for lots, amount in self.steps])
+
 
 @dataclass(frozen=True)
 class Lot:
@@ -108,7 +81,7 @@ class Lot:
 @dataclass(frozen=True)
 class Built:
     """A document and what its codes stand for."""
-    document: dict
+    document: Json
     lots: list[Lot]
     codes: dict[str, str]
     sizes: Sizes
@@ -156,15 +129,15 @@ def build(network: Network, sizes: Sizes) -> Built:
     lane_schedules = each(network.lanes, lambda lane: in_lots(lane.schedule, sizes, False), troubles)
     raise_all(troubles)
     schedules = {firm.name: schedule for firm, schedule in zip(network.firms, firm_schedules)}
-    codes = codes_of(network.firms)
+    codes = codes_of(((firm.name, firm.row) for firm in network.firms), "firm")
     lots = [lot for lane, schedule in zip(network.lanes, lane_schedules) for lot in lots_of(lane, schedule, schedules)]
-    version = version_for(max(len(network.firms), len(lots)), most_own(lots))
+    version = version_of_lots(max(len(network.firms), len(lots)), most_own(lots))
     for lot in lots:
-        version.small(lot.cost, lot.lane.place)
+        hold_small(lot.cost, version, lot.lane.place)
     document = {
         "version": version.number,
         "note": sizes.note(),
-        "firms": [laminar(firm, codes[firm.name], schedules[firm.name], lots, version) for firm in network.firms],
+        "firms": list(written_firms(network, codes, schedules, lots, version)),
         "trades": [{"name": lot.code, "seller": codes[lot.lane.source], "buyer": codes[lot.lane.target],
                     "note": str(lot.lane)} for lot in lots],
     }
@@ -212,41 +185,44 @@ def most_own(lots: list[Lot]) -> int:
     return max(own.values(), default=0)
 
 
-def laminar(firm: Firm, code: str, schedule: LotSchedule, lots: list[Lot], version: Version) -> dict:
-    sales = [lot for lot in lots if lot.lane.source == firm.name]
-    purchases = [lot.code for lot in lots if lot.lane.target == firm.name]
-    sold = [lot.code for lot in sales]
-    counted = sold if firm.role == SELLS else purchases
-    most = len(counted) if schedule.capacity is None else min(schedule.capacity, len(counted))
-    sign = 1 if firm.role == BUYS else -1
-    sums = accumulate(sign * amount for amount in schedule.amounts(most))
-    values = [0, *(version.small(amount, firm.place) for amount in sums)]
+def written_firms(network: Network, codes: Mapping[str, str], schedules: Mapping[str, LotSchedule], lots: list[Lot],
+                  version: Version) -> Iterator[Json]:
+    """Each firm as the format has it."""
+    manner = Manner(Fraction(1), {lot.code: lot.code for lot in lots}, {lot.code: 1 for lot in lots}, False)
+    sales: dict[str, dict[str, Fraction]] = {firm.name: {} for firm in network.firms}
+    purchases: dict[str, dict[str, Fraction]] = {firm.name: {} for firm in network.firms}
+    for lot in lots:
+        sales[lot.lane.source][lot.code] = Fraction(lot.cost)
+        purchases[lot.lane.target][lot.code] = Fraction(0)
+    for firm in network.firms:
+        kind = kind_of(firm, purchases[firm.name], sales[firm.name], schedules[firm.name].limited())
+        written = kind.written(manner)
+        for part in written["sets"]:
+            for value in part["values"][::-1 if part["from"] < 0 else 1]:
+                hold_small(value, version, firm.place)
+        yield {"name": codes[firm.name], "kind": written["kind"], "note": firm.name, "amounts": written["amounts"],
+               "sets": written["sets"]}
+
+
+def kind_of(firm: Firm, purchases: kinds.Amounts, sales: kinds.Amounts, steps: Steps) -> kinds.Laminar:
+    """What a firm of a role is; whoever sends a lot pays what its lane costs."""
     if firm.role == SELLS:
-        sets = [{"trades": sold, "from": -most, "values": values[::-1]}]
-    elif firm.role == BUYS:
-        sets = [{"trades": purchases, "from": 0, "values": values}]
-    else:
-        sets = [{"trades": purchases + sold, "from": 0, "values": [0]},
-                {"trades": purchases, "from": 0, "values": values}]
-    return {"name": code, "kind": "laminar", "note": firm.name,
-            "amounts": [[lot.code, -lot.cost] for lot in sales if lot.cost],
-            "sets": [part for part in sets if part["trades"]]}
+        return kinds.seller(sales, steps)
+    return kinds.buyer(purchases, steps) if firm.role == BUYS else kinds.maker(purchases, sales, steps)
 
 
-def codes_of(firms: list[Firm]) -> dict[str, str]:
-    """A name of the document for each firm: its own without accents, where that leaves something."""
-    codes: dict[str, str] = {}
-    for firm in firms:
-        letters = unicodedata.normalize("NFKD", firm.name.translate(PLAIN_LETTERS)).encode("ascii", "ignore").decode()
-        code = re.sub(r"[^A-Za-z0-9_.]+", "-", letters).strip("-")[:LONGEST_NAME] or f"firm{firm.row}"
-        begin, more = code[:LONGEST_NAME - 9], firm.row
-        while code in codes.values():
-            code, more = f"{begin}.{more}", more + 1
-        codes[firm.name] = code
-    return codes
+def hold_small(amount: int, version: Version, place: str) -> None:
+    """Says where a number is larger than the version allows."""
+    if abs(amount) <= version.largest:
+        return
+    few, where, advice = OF_LOTS[-2], "", "take a larger --unit"
+    if version is LARGE:
+        where = f" where there are more than {few.most} firms or lots, or more than {few.most_own} lots at a firm"
+        advice += ", or a larger --lot, so that there are fewer"
+    raise Trouble(f"{place}: this comes to {amount} units of money, and {version.largest} is the most{where}: {advice}")
 
 
-def table_of_codes(built: Built) -> Iterator[tuple]:
+def table_of_codes(built: Built) -> Iterator[tuple[Any, ...]]:
     """What each code of the document stands for."""
     yield "code", "firm", "from", "to", "good", "by", "cost of a lot"
     for name, code in built.codes.items():

@@ -1,19 +1,19 @@
 """What is said of the faults of documents: what stands at the place of a fault, and what is wanted there.
 
-market.py says it as `str(fault)`, where this file is beside it. The number, the name and the place of a fault are the
-program's; the tables here are those of page/read/shapes.js and limits.js, and the sentences are those of tools/explain
-in English, which tools/words_test holds to each other. This file needs Python 3.9 or later and no other file.
+`str(fault)` says it. The number, the name and the place of a fault are the program's; the tables here are those of
+page/read/shapes.js and limits.js, and the sentences are those of tools/explain in English, which tools/words_test holds to
+each other.
 """
 from __future__ import annotations
 
 import json
 import re
-from typing import Any, Optional, Union
+from typing import Any, Callable, Optional, Union
 
 MOST_BYTES, DEEPEST, LARGEST = 4_194_304, 127, 2 ** 63
 MOST_SIGNS, MOST_NAMES = 40, 8
 
-SHAPES = {
+SHAPES: dict[str, dict[str, Any]] = {
     "document": {"needs": {"version": "version", "firms": "firms", "trades": "trades"},
                  "may": {"arrangement": "arrangement", "outcome": "outcome", "claim": "claim", "edits": "edits",
                          "note": "note"}},
@@ -38,7 +38,7 @@ SHAPES = {
     "part": {"items": ["firm_name", "bundle", "number"]},
 }
 
-CLAIMED = {
+CLAIMED: dict[str, dict[str, str]] = {
     "equilibrium": {"surplus": "number"}, "better": {"firm": "firm_name", "bundle": "bundle", "gain": "number"},
     "impossible": {"firm": "firm_name"}, "prices": {"prices": "entries"}, "cycle": {"nodes": "nodes", "cost": "number"},
     "solved": {"on": "bundle", "prices": "entries", "surplus": "number"},
@@ -48,21 +48,21 @@ CLAIMED = {
     "none": {"plan": "plan", "over": "number"},
 }
 
-WORDS = {"version": ["1", "2", "3"], "kind": ["table", "laminar", "middleman", "dealer"],
+WORDS: dict[str, list[str]] = {"version": ["1", "2", "3"], "kind": ["table", "laminar", "middleman", "dealer"],
          "deed": ["admit", "bar", "leave", "join"], "answer": list(CLAIMED)}
 
-_FEW = {"own": 32, "farthest": 32, "values": 65, "edits": 256, "amount": 10 ** 9, "over": 10 ** 5}
+_FEW: dict[str, int] = {"own": 32, "farthest": 32, "values": 65, "edits": 256, "amount": 10 ** 9, "over": 10 ** 5}
 
-LIMITS = {"1": {"most": 64, **_FEW}, "2": {"most": 128, **_FEW},
+LIMITS: dict[str, dict[str, int]] = {"1": {"most": 64, **_FEW}, "2": {"most": 128, **_FEW},
           "3": {"most": 1024, "own": 60, "farthest": 60, "values": 121, "edits": 2048, "amount": 10 ** 7,
                 "over": 10 ** 6}}
 
 # The limits by the member, or the kind of firm, that has them: a part of LIMITS and how much more, or one for all versions.
-_OF_MEMBERS = {"firms": ("most", 0), "trades": ("most", 0), "edits": ("edits", 0), "nodes": ("most", 1), "sets": 64,
+_OF_MEMBERS: dict[str, Union[int, tuple[str, int]]] = {"firms": ("most", 0), "trades": ("most", 0), "edits": ("edits", 0), "nodes": ("most", 1), "sets": 64,
                "values": ("values", 0), "from": ("farthest", 0), "plan": 1024}
-_OF_KINDS = {"table": 14, "laminar": ("own", 0), "middleman": ("own", 0), "dealer": ("own", 0)}
+_OF_KINDS: dict[str, Union[int, tuple[str, int]]] = {"table": 14, "laminar": ("own", 0), "middleman": ("own", 0), "dealer": ("own", 0)}
 
-TEXTS = {
+TEXTS: dict[str, Any] = {
     "fault.problem": "Line {line}, column {column}: {problem}.",
     "fault.problem_at": "Line {line}, column {column}: {problem}; here stands {found}.",
     "fault.problem_end": "Line {line}, column {column}: {problem}; here the text ends.",
@@ -195,9 +195,8 @@ TEXTS = {
 
 def _say(key: str, **values: Any) -> str:
     text = TEXTS[key]
-    if isinstance(text, dict):
-        text = text["one" if values["count"] == 1 else "other"]
-    return re.sub(r"\{(\w+)\}", lambda found: str(values[found[1]]), text)
+    plain: str = text if isinstance(text, str) else text["one" if values["count"] == 1 else "other"]
+    return re.sub(r"\{(\w+)\}", lambda found: str(values[found[1]]), plain)
 
 
 def _listed(words: list[str]) -> str:
@@ -229,7 +228,7 @@ def _set(names: list[str]) -> str:
 def _nearest(word: str, known: list[str]) -> Optional[str]:
     """The word that is nearest to one, and the first of several, or None."""
     distances = [_apart(word.encode(), each.encode()) for each in known]
-    least = min(filter(lambda distance: distance is not None, distances), default=None)
+    least = min((distance for distance in distances if distance is not None), default=None)
     return None if least is None else known[distances.index(least)]
 
 
@@ -271,7 +270,11 @@ class _Reader:
         return self.text[self.at:self.at + 1]
 
     def skip(self) -> None:
-        self.at = _BLANKS.match(self.text, self.at).end()
+        self.pass_over(_BLANKS)
+
+    def pass_over(self, signs: re.Pattern[str]) -> None:
+        found = signs.match(self.text, self.at)
+        self.at = found.end() if found else self.at
 
     def takes(self, sign: str) -> bool:
         self.skip()
@@ -338,11 +341,12 @@ class _Reader:
 
     def string(self) -> None:
         opened = self.at
-        self.at = _PLAIN.match(self.text, self.at + 1).end()
+        self.at += 1
+        self.pass_over(_PLAIN)
         while self.next() == "\\":
             self.at += 1
             self.escape()
-            self.at = _PLAIN.match(self.text, self.at).end()
+            self.pass_over(_PLAIN)
         if self.next() == "":
             raise _NotJson(opened, "open")
         if self.next() != '"':
@@ -427,7 +431,7 @@ def _is_text(value: Any) -> bool:
     return isinstance(value, str) and not isinstance(value, _Numeral)
 
 
-def _part(value: Any, place: list) -> Any:
+def _part(value: Any, place: list[Any]) -> Any:
     """What a place leads to; raises LookupError or TypeError where nothing is there."""
     for step in place:
         value = value[step]
@@ -438,14 +442,14 @@ class _Absent:
     pass
 
 
-def _found(data: Any, place: list) -> Any:
+def _found(data: Any, place: list[Any]) -> Any:
     try:
         return _part(data, place)
     except (LookupError, TypeError):
         return _Absent
 
 
-def _objects(value: Any) -> list[dict]:
+def _objects(value: Any) -> list[dict[str, Any]]:
     return [each for each in value if isinstance(each, dict)] if isinstance(value, list) else []
 
 
@@ -458,7 +462,7 @@ class _Network:
         self.firms, self.trades = _objects(top.get("firms")), _objects(top.get("trades"))
         self.limits = LIMITS[self.version if self.version in WORDS["version"] else "1"]
 
-    def names(self, part: list[dict]) -> list[str]:
+    def names(self, part: list[dict[str, Any]]) -> list[str]:
         return [each["name"] for each in part]
 
     def own(self, firm: str) -> list[str]:
@@ -467,7 +471,7 @@ class _Network:
 
 # Shapes
 
-def _shape_at(data: Any, place: list) -> Optional[dict]:
+def _shape_at(data: Any, place: list[Any]) -> Optional[dict[str, Any]]:
     """The shape that is wanted at a place, with its name; None where no value is wanted."""
     shape, value = _shape("document", data), data
     for step in place:
@@ -481,7 +485,7 @@ def _shape_at(data: Any, place: list) -> Optional[dict]:
     return shape
 
 
-def _shape(name: str, value: Any) -> dict:
+def _shape(name: str, value: Any) -> dict[str, Any]:
     """A shape by its name; of firms and claims it is that of their kind, where they have one."""
     own = value.get({"firm": "kind", "claim": "answer"}.get(name, "")) if isinstance(value, dict) else None
     if name == "firm" and _is_text(own) and own in WORDS["kind"]:
@@ -491,7 +495,7 @@ def _shape(name: str, value: Any) -> dict:
     return {"name": name, **SHAPES.get(name, {})}
 
 
-def _shape_line(network: _Network, place: list, value: Any) -> Optional[str]:
+def _shape_line(network: _Network, place: list[Any], value: Any) -> Optional[str]:
     shape = _shape_at(network.data, place)
     if value is _Absent:
         return _missing_line(network.data, place)
@@ -509,7 +513,7 @@ def _shape_line(network: _Network, place: list, value: Any) -> Optional[str]:
     return _say("shape.wrong_near", wanted=wanted, found=_shown(value), near=_quoted(near))
 
 
-def _member_line(shape: dict, names: list[str]) -> Optional[str]:
+def _member_line(shape: dict[str, Any], names: list[str]) -> Optional[str]:
     """The first member of an object that isn't allowed."""
     needs, may = list(shape["needs"]), list(shape.get("may", {}))
     member = next((name for name in names if name not in needs + may), None)
@@ -519,14 +523,14 @@ def _member_line(shape: dict, names: list[str]) -> Optional[str]:
     values = {"member": _quoted(member), "thing": _thing(shape)}
     if near is not None:
         return _say("shape.member_near", **values, near=_quoted(near))
-    values.update(needs=_members(needs), may=may and _members(may))
+    values.update(needs=_members(needs), may=_members(may) if may else "")
     return _say("shape.member_may" if may else "shape.member", **values)
 
 
-def _missing_line(data: Any, place: list) -> str:
+def _missing_line(data: Any, place: list[Any]) -> str:
     """A member that is missing, perhaps since its name is written otherwise."""
     *around, member = place
-    shape = _shape_at(data, around)
+    shape = _shape_at(data, around) or {}
     if not around and member in shape["may"]:
         return _say("shape.part", member=_quoted(member))
     allowed = {**shape["needs"], **shape.get("may", {})}
@@ -553,7 +557,7 @@ def _wanted(name: str) -> str:
     return _say(f"wanted.{name}", words=_members(WORDS[name]) if name in WORDS else "")
 
 
-def _thing(shape: dict) -> str:
+def _thing(shape: dict[str, Any]) -> str:
     claimed = shape.get("claimed")
     return _say(f"thing.{shape['name']}") if claimed is None else _say("thing.claimed", answer=_quoted(claimed))
 
@@ -570,31 +574,31 @@ def _shown(value: Any) -> str:
 
 # Limits and ranges
 
-def _limit_line(network: _Network, place: list, value: Any) -> Optional[str]:
+def _limit_line(network: _Network, place: list[Any], value: Any) -> Optional[str]:
     last, firm = place[-1], network.firms[place[1]] if place[0] == "firms" and len(place) > 1 else None
     own = len(network.own(firm["name"])) if firm else 0
     if last == "rows":
         return _say("limit.rows", count=len(value), own=own, bundles=_large(2 ** own - 1))
     if place == ["claim"]:
         return _say("limit.plan_trades", count=len(network.trades))
-    if last in _OF_MEMBERS:
+    if firm is None or last in _OF_MEMBERS:
         return _bound_line(network, last, _OF_MEMBERS[last], int(value) if last == "from" else len(value))
     return _bound_line(network, firm["kind"], _OF_KINDS[firm["kind"]], own)
 
 
 def _bound_line(network: _Network, name: str, bound: Union[int, tuple[str, int]], count: int) -> str:
     """A limit with what was found, and the first version that has room for it, where one has."""
-    def most(limits: dict) -> int:
+    def most(limits: dict[str, int]) -> int:
         return bound if isinstance(bound, int) else limits[bound[0]] + bound[1]
 
     said = _say(f"limit.{name}", count=count, version=network.version, most=_large(most(network.limits)))
-    wider = next((each for each in LIMITS if each > network.version and abs(count) <= most(LIMITS[each])), None)
+    wider = next((each for each in LIMITS if each > str(network.version) and abs(count) <= most(LIMITS[each])), None)
     if wider is None or name == "nodes":
         return said
     return _say("limit.wider", told=said, version=wider, most=_large(most(LIMITS[wider])))
 
 
-def _range_line(network: _Network, place: list, number: str) -> str:
+def _range_line(network: _Network, place: list[Any], number: str) -> str:
     value, part = _numeral(number), place[0]
     if part == "firms":
         return _say("beyond.amount", value=value, version=network.version, most=_large(network.limits["amount"]))
@@ -604,7 +608,7 @@ def _range_line(network: _Network, place: list, number: str) -> str:
     return _say(keys[part], value=value)
 
 
-def _over_line(network: _Network, place: list, value: str) -> str:
+def _over_line(network: _Network, place: list[Any], value: str) -> str:
     if place[0] == "claim":
         return _say("beyond.claim_over", value=_numeral(value), most=_large(network.limits["over"]))
     return _say("beyond.outcome_over", value=_numeral(value))
@@ -612,25 +616,25 @@ def _over_line(network: _Network, place: list, value: str) -> str:
 
 # Names
 
-def _name_line(network: _Network, place: list, value: str) -> str:
+def _name_line(network: _Network, place: list[Any], value: str) -> str:
     return _say("name.rule", name=_quoted(value))
 
 
-def _taken_line(network: _Network, place: list, value: str) -> str:
+def _taken_line(network: _Network, place: list[Any], value: str) -> str:
     part, index = place[:2]
     first = [each.get("name") for each in network.data[part]].index(value)
     key = "name.taken_firm" if part == "firms" else "name.taken_trade"
     return _say(key, name=_quoted(value), first=first, index=index)
 
 
-def _no_firm_line(network: _Network, place: list, value: str) -> str:
+def _no_firm_line(network: _Network, place: list[Any], value: str) -> str:
     names = network.names(network.firms)
     if value in [trade.get("name") for trade in network.trades]:
         return _say("name.trade_not_firm", name=_quoted(value))
     return _unknown_line("name.no_firm", value, names)
 
 
-def _no_trade_line(network: _Network, place: list, value: str) -> str:
+def _no_trade_line(network: _Network, place: list[Any], value: str) -> str:
     if value in network.names(network.firms):
         return _say("name.firm_not_trade", name=_quoted(value))
     return _unknown_line("name.no_trade", value, network.names(network.trades))
@@ -643,7 +647,7 @@ def _unknown_line(key: str, value: str, names: list[str]) -> str:
     return _say(key, name=_quoted(value), names=_some(names)) if names else _say(f"{key}s", name=_quoted(value))
 
 
-def _not_own_line(network: _Network, place: list, value: str) -> str:
+def _not_own_line(network: _Network, place: list[Any], value: str) -> str:
     """A trade that isn't the firm's own, or is a sale where a purchase is wanted, or a purchase where a sale is."""
     trade, firm = next(trade for trade in network.trades if trade["name"] == value), _owner(network.data, place)
     values = {"trade": _quoted(value), "firm": _quoted(firm)}
@@ -654,14 +658,15 @@ def _not_own_line(network: _Network, place: list, value: str) -> str:
     return _say("name.not_own", **values, names=_some(own)) if own else _say("name.none_own", **values)
 
 
-def _owner(data: Any, place: list) -> str:
+def _owner(data: Any, place: list[Any]) -> str:
     """The firm whose trades are wanted at a place."""
+    claim = data.get("claim")
     if place[0] == "firms":
-        return data["firms"][place[1]]["name"]
-    return data["claim"]["plan"][place[2]][0] if place[1] == "plan" else data["claim"]["firm"]
+        return str(data["firms"][place[1]]["name"])
+    return str(claim["plan"][place[2]][0] if place[1] == "plan" else claim["firm"])
 
 
-def _same_trade_line(network: _Network, place: list, value: str) -> str:
+def _same_trade_line(network: _Network, place: list[Any], value: str) -> str:
     is_entry = (_shape_at(network.data, place[:-1]) or {}).get("name") == "entry"
     items = _part(network.data, place[:-2] if is_entry else place[:-1])
     names = [item[0] if is_entry else item for item in items]
@@ -670,47 +675,48 @@ def _same_trade_line(network: _Network, place: list, value: str) -> str:
 
 # Parts of firms
 
-def _self_trade_line(network: _Network, place: list, trade: dict) -> str:
+def _self_trade_line(network: _Network, place: list[Any], trade: dict[str, Any]) -> str:
     return _say("part.itself", trade=_quoted(trade["name"]), firm=_quoted(trade["seller"]))
 
 
-def _same_bundle_line(network: _Network, place: list, row: list) -> str:
+def _same_bundle_line(network: _Network, place: list[Any], row: list[Any]) -> str:
     bundles = [set(trades) for trades, _ in _part(network.data, place[:-1])[:place[-1]]]
     return _say("part.bundle", first=bundles.index(set(row[0])), bundle=_set(row[0]))
 
 
-def _no_zero_line(network: _Network, place: list, value: dict) -> str:
+def _no_zero_line(network: _Network, place: list[Any], value: dict[str, Any]) -> str:
     first, count = int(value["from"]), len(value["values"])
     return _say("part.no_zero", **{"from": first}, last=first + count - 1) if count else _say("part.no_values")
 
 
-def _crossing_line(network: _Network, place: list, value: dict) -> str:
+def _crossing_line(network: _Network, place: list[Any], value: dict[str, Any]) -> str:
     """Two sets with some trades in common, of which neither contains the other."""
     own, earlier = value["trades"], [each["trades"] for each in _part(network.data, place[:-1])]
     first = next(k for k, other in enumerate(earlier) if _cross(set(own), set(other)))
     return _say("part.crosses", first=first, common=_set([trade for trade in own if trade in earlier[first]]))
 
 
-def _cross(one: set, other: set) -> bool:
+def _cross(one: set[Any], other: set[Any]) -> bool:
     return bool(one & other and one - other and other - one)
 
 
-def _bent_line(network: _Network, place: list, value: str) -> str:
+def _bent_line(network: _Network, place: list[Any], value: str) -> str:
     values, at = _part(network.data, place[:-1]), place[-1]
     return _say("part.bent", value=value, before=values[at - 1], after=values[at + 1])
 
 
-def _same_pair_line(network: _Network, place: list, pair: list) -> str:
+def _same_pair_line(network: _Network, place: list[Any], pair: list[Any]) -> str:
     pairs = [each[:2] for each in _part(network.data, place[:-1])]
     return _say("part.pair", first=pairs.index(pair[:2]), purchase=_quoted(pair[0]), sale=_quoted(pair[1]))
 
 
-_LINES = {3: _shape_line, 4: _name_line, 5: _taken_line, 6: _no_firm_line, 7: _self_trade_line, 8: _no_trade_line,
-          9: _limit_line, 10: _range_line, 11: _not_own_line, 12: _same_bundle_line, 13: _no_zero_line, 14: _crossing_line,
-          15: _bent_line, 17: _same_trade_line, 19: _over_line, 20: _same_pair_line}
+_LINES: dict[int, Callable[[_Network, list[Any], Any], Optional[str]]] = {
+    3: _shape_line, 4: _name_line, 5: _taken_line, 6: _no_firm_line, 7: _self_trade_line, 8: _no_trade_line,
+    9: _limit_line, 10: _range_line, 11: _not_own_line, 12: _same_bundle_line, 13: _no_zero_line, 14: _crossing_line,
+    15: _bent_line, 17: _same_trade_line, 19: _over_line, 20: _same_pair_line}
 
 
-def sentence(said: dict, asked: bytes) -> Optional[str]:
+def sentence(said: dict[str, Any], asked: bytes) -> Optional[str]:
     """What stands at the place of a fault, and what is wanted there; None where the document doesn't show it.
 
     said: the program's answer, a dictionary. asked: the document's bytes.

@@ -1,1 +1,0 @@
-"""What tools/marginals and tools/middle do, by files."""
