@@ -17,7 +17,9 @@ PLACES = 10  # as many digits after the point are looked at before another unit 
 
 def exact(amount: Any, what: str) -> Fraction:
     """The amount, exactly. A float that isn't whole is refused, since it is seldom the number that was typed."""
-    if isinstance(amount, (Fraction, Decimal)) and not isinstance(amount, bool):
+    if isinstance(amount, bool):
+        raise Trouble(f"{what}: {amount} is no number")
+    if isinstance(amount, (Fraction, Decimal)):
         return Fraction(amount)
     if isinstance(amount, float):
         if not amount.is_integer():

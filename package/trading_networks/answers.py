@@ -7,7 +7,7 @@ from dataclasses import dataclass, field, fields
 from fractions import Fraction
 from typing import Any, ClassVar, Iterable, Mapping, Optional, Sequence, Union
 
-from . import plots
+from . import graphs, plots
 from .plots import needed
 
 Json = dict[str, Any]
@@ -51,6 +51,11 @@ class Answer:
         frame = pandas.DataFrame({name: _column(pandas, [row[name] for row in rows], name in self.nullable)
                                   for name in self.columns or rows[0]})
         return frame.set_index(self.columns[0]) if self.columns[:1] in (("trade",), ("firm",)) else frame
+
+    def to_networkx(self) -> Any:
+        """The network as a networkx.MultiDiGraph: a node for each firm, and an edge for each trade, from its seller to its
+        buyer, whose key is its name. What the rows say of firms or of trades are their attributes. Needs networkx."""
+        return graphs.graph_of(self.document, self.columns, self.rows())
 
     def plot(self, axes: Any = None) -> Any:
         """Draws the answer on matplotlib's axes, or on new ones, and returns them. Needs matplotlib."""

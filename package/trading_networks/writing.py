@@ -103,8 +103,9 @@ class Writing:
             return f"which of {others[0]} and {others[1]} sells it isn't said: trade({name!r}, seller, buyer) says it"
         if others and len(known) + len(others) > 2:
             return f"{', '.join([*known, *others])} have it, and a trade has two firms"
-        missing = "buys" if trade.sellers else "sells"
-        return f"no firm {missing} it" + "".join(f"; {firm} has it" for firm in (known or others)[:1])
+        if not known and not others:
+            return "no firm has it"
+        return f"no firm {'buys' if trade.sellers else 'sells'} it; {(known or others)[0]} has it"
 
     def needs(self, firms: Sequence[Json], units: int, has_units: bool) -> Needs:
         """How large the network is."""
