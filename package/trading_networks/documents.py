@@ -65,7 +65,7 @@ class Document:
         kind = kinds.buyer(amounts_of(name, worths), schedule)
         first = max((amount for _, amount in schedule), default=Fraction(0))
         if kind.purchases and all(worth + first <= 0 for worth in kind.purchases.values()):
-            warn(f"{name} would never pay anything: nothing that it may buy is worth more than 0 to it", 1)
+            warn(f"{name} would never pay anything: nothing that it may buy is worth more than 0 to it")
         return self._add(name, kind)
 
     def maker(self, name: str, *, buys: Costs, sells: Costs, up_to: Optional[int] = None, steps: Optional[Stages] = None,
@@ -163,7 +163,7 @@ class Document:
         for name, kind in self._firms.items():
             why = kinds.why_never(kind)
             if why is not None:
-                warn(f"{name} would never trade: {why}", 1)
+                warn(f"{name} would never trade: {why}")
         return self._writing().document(self._parts)
 
     def _writing(self) -> Writing:

@@ -1,6 +1,8 @@
 """What the builders are given, read: amounts by trade, and what each further unit adds."""
 from __future__ import annotations
 
+import os
+import sys
 import warnings
 from fractions import Fraction
 from typing import Iterable, Mapping, Optional, Sequence, Union
@@ -10,6 +12,7 @@ from .amounts import Amount, count_of, exact
 from .kinds import Steps
 from .tables import Trouble
 
+PACKAGE = os.path.dirname(os.path.abspath(__file__)) + os.sep
 Costs = Union[Mapping[str, Amount], Iterable[str]]
 """What each trade costs, or the names of trades that cost nothing."""
 Stages = Sequence[tuple[Optional[int], Amount]]
@@ -20,9 +23,12 @@ class DocumentWarning(UserWarning):
     """A document is most likely not what was meant: a firm would never trade, or a cost is below 0."""
 
 
-def warn(what: str, level: int) -> None:
-    """Warns where so many calls above this one's caller stand."""
-    warnings.warn(what, DocumentWarning, stacklevel=level + 2)
+def warn(what: str) -> None:
+    """Warns at the line outside the package that led here."""
+    frame, level = sys._getframe(1), 2
+    while frame.f_back is not None and frame.f_code.co_filename.startswith(PACKAGE):
+        frame, level = frame.f_back, level + 1
+    warnings.warn(what, DocumentWarning, stacklevel=level - 1)
 
 
 def amounts_of(firm: str, amounts: Costs) -> dict[str, Fraction]:
@@ -36,7 +42,7 @@ def costs_of(firm: str, costs: Costs) -> dict[str, Fraction]:
     read = amounts_of(firm, costs)
     for trade, cost in read.items():
         if cost < 0:
-            warn(f"{firm}, {trade}: the cost {cost} is below 0; a cost is given as it is, so this one is a gain", 2)
+            warn(f"{firm}, {trade}: the cost {cost} is below 0; a cost is given as it is, so this one is a gain")
     return read
 
 

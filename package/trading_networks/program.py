@@ -9,7 +9,7 @@ import pathlib
 import platform
 import shutil
 import subprocess
-from typing import Any, Optional, Protocol, Union, runtime_checkable
+from typing import Any, Optional, Protocol, Union
 
 from . import served
 from .errors import NoProgram, TimedOut, trouble
@@ -20,7 +20,6 @@ YES, NO = 0, 6
 SERVING = 60  # seconds in which the program says its version, the slowest of machines included
 
 
-@runtime_checkable
 class HasDocument(Protocol):
     """What has a document: one of the builders, or an answer."""
 
@@ -101,7 +100,9 @@ def bytes_of(document: Optional[Asked]) -> bytes:
         return document
     if isinstance(document, (str, os.PathLike)):
         return pathlib.Path(document).read_bytes()
-    plain = document.document if isinstance(document, HasDocument) else document
+    plain: Any = document
+    if not isinstance(document, dict):
+        plain = getattr(plain, "document", plain)  # (once: a builder makes it then)
     return json.dumps(plain, default=operator.index, allow_nan=False, ensure_ascii=False).encode()
 
 

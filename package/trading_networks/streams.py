@@ -8,12 +8,13 @@ import select
 import subprocess
 import threading
 import time
-from typing import IO, Any, Iterable, Iterator, Literal, Mapping, Optional, Union, overload
+from collections.abc import Iterable, Iterator, Mapping
+from typing import IO, Any, Literal, Optional, Union, overload
 
 from .answers import (KINDS, NOES, Accepted, Answer, Better, Blocks, Completes, Cycle, Drops, Equilibrium, ExchangeFails,
                       Firms, Impossible, Invalid, Prices, Ranges, Session, Solved, Valid, object_of)
 from .errors import Fault, MarketError, NoMemory, NoProgram, TimedOut, cause_of, parsed
-from .program import YES, Asked, HasDocument, Path, bytes_of, find
+from .program import YES, Asked, Path, bytes_of, find
 from .served import words_for
 
 Told = Union[Fault, NoMemory]
@@ -65,7 +66,7 @@ def stream(command: str, documents: Iterable[Asked], *, program: Optional[Path] 
     None. All else is raised, after the answers that came before: a MarketError has their count as `answered`; what
     `documents` raises, or for one that is none (see `ask`), is as it is. Closing the generator ends the process.
     """
-    if isinstance(documents, (str, bytes, os.PathLike, Mapping, HasDocument)):
+    if isinstance(documents, (str, bytes, os.PathLike, Mapping)) or not isinstance(documents, Iterable):
         raise TypeError(f"stream wants several documents, and here is one {type(documents).__name__}: write "
                         f"stream({command!r}, [document])")
     return _answers(command, documents, program, timeout)
