@@ -10,6 +10,7 @@ import base64
 import hashlib
 import os
 import pathlib
+import posixpath
 import re
 import sys
 import time
@@ -70,8 +71,9 @@ def node_files():
     while waiting:
         path = waiting.pop()
         found[path] = None
-        named = (os.path.normpath(f"{os.path.dirname(path)}/{other}") for other in IMPORTED.findall((HOME / path).read_text(encoding="utf-8")))
-        waiting += [other.replace(os.sep, "/") for other in named if other.replace(os.sep, "/") not in found]
+        named = IMPORTED.findall((HOME / path).read_text(encoding="utf-8"))
+        paths = {posixpath.normpath(posixpath.join(posixpath.dirname(path), other)) for other in named}
+        waiting += sorted(paths.difference(found))
     return {f"{PACKAGE}/node/{path}": HOME / path for path in found}
 
 

@@ -18,8 +18,10 @@ def assignment(worths: Any, costs: Optional[Sequence[Amount]] = None, *, sellers
     rows, sellers, buyers = _matrix(worths, sellers, buyers)
     market, least = Document(unit=unit), list(costs) if costs is not None else [0] * len(rows)
     if len(least) != len(rows) or any(len(row) != len(buyers) for row in rows):
-        raise Trouble(f"the worths are for {len(rows)} sellers; each wants one cost, and one worth for each of {len(buyers)} buyers")
-    names = {(i, j): f"{sellers[i]}-{buyers[j]}" for i, row in enumerate(rows) for j, worth in enumerate(row) if not _is_missing(worth)}
+        raise Trouble(f"the worths are for {len(rows)} sellers; each wants one cost, and one worth for each of "
+                      f"{len(buyers)} buyers")
+    names = {(i, j): f"{sellers[i]}-{buyers[j]}" for i, row in enumerate(rows) for j, worth in enumerate(row)
+             if not _is_missing(worth)}
     for i, seller in enumerate(sellers):
         market.seller(seller, costs={names[i, j]: least[i] for j in range(len(buyers)) if (i, j) in names})
     for j, buyer in enumerate(buyers):
@@ -27,10 +29,12 @@ def assignment(worths: Any, costs: Optional[Sequence[Amount]] = None, *, sellers
     return market
 
 
-def _matrix(worths: Any, sellers: Optional[Sequence[str]], buyers: Optional[Sequence[str]]) -> tuple[list[list[Any]], list[str], list[str]]:
+def _matrix(worths: Any, sellers: Optional[Sequence[str]],
+            buyers: Optional[Sequence[str]]) -> tuple[list[list[Any]], list[str], list[str]]:
     """The rows of a matrix or a data frame, and the names of its rows and columns."""
     if hasattr(worths, "itertuples"):
-        sellers, buyers = sellers or [str(name) for name in worths.index], buyers or [str(name) for name in worths.columns]
+        sellers = sellers or [str(name) for name in worths.index]
+        buyers = buyers or [str(name) for name in worths.columns]
         worths = worths.itertuples(index=False)
     rows = [list(row) for row in worths]
     width = max((len(row) for row in rows), default=0)

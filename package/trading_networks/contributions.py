@@ -15,8 +15,10 @@ from .standing import asked_ranges, at, network, whole
 from .streams import stream
 
 MOST_EDITS = 256  # of one session, in every version: each state of an answer lists the prices of all trades
+Without = dict[tuple[str, str], int]  # the greatest surplus after an edit that takes a firm or a trade away
 Reached = Literal["lowest", "highest", "both", "neither"]
-SAID: dict[tuple[bool, bool], Reached] = {(True, True): "both", (True, False): "lowest", (False, True): "highest", (False, False): "neither"}
+SAID: dict[tuple[bool, bool], Reached] = {
+    (True, True): "both", (True, False): "lowest", (False, True): "highest", (False, False): "neither"}
 
 
 @dataclass(frozen=True)
@@ -70,7 +72,8 @@ class Marginals:
 
     def firm_frame(self) -> Any:
         """The rows of firms as a pandas.DataFrame. Needs pandas."""
-        frame = needed("pandas", "firm_rows() needs nothing").DataFrame(self.firm_rows(), columns=list(FirmMarginal.__annotations__))
+        pandas = needed("pandas", "firm_rows() needs nothing")
+        frame = pandas.DataFrame(self.firm_rows(), columns=list(FirmMarginal.__annotations__))
         return frame.astype({"gain_at_lowest": "Int64", "gain_at_highest": "Int64"}).set_index("firm")
 
     def trade_frame(self) -> Any:
@@ -83,9 +86,9 @@ def marginals(document: Asked, *, program: Optional[Path] = None) -> Marginals:
     """By how much the greatest surplus falls without each firm, and without each trade. Raises as `ask` does."""
     found = asked_ranges(document, program)
     surplus, without = _surpluses(found, program)
-    trades = {trade["name"]: TradeMarginal(trade["name"], trade["seller"], trade["buyer"], trade["name"] in found.on, rest, surplus - rest)
-              for trade in found.document["trades"] for rest in [without.get(("bar", trade["name"]), surplus)]}
-    return Marginals(surplus, {each.firm: each for each in _firm_marginals(found, surplus, without, program)}, trades)
+    firms = _firm_marginals(found, surplus, without, program)
+    trades = (_trade_marginal(trade, found, surplus, without) for trade in found.document["trades"])
+    return Marginals(surplus, {each.firm: each for each in firms}, {each.trade: each for each in trades})
 
 
 def clarke(document: Asked, *, program: Optional[Path] = None) -> dict[str, int]:
@@ -94,11 +97,12 @@ def clarke(document: Asked, *, program: Optional[Path] = None) -> dict[str, int]
     return {each.firm: each.pays for each in marginals(document, program=program).firms.values()}
 
 
-def _surpluses(found: Ranges, program: Optional[Path]) -> tuple[int, dict[tuple[str, str], int]]:
+def _surpluses(found: Ranges, program: Optional[Path]) -> tuple[int, Without]:
     """The greatest surplus, and that without each firm and each trade that is on: without others the efficient set is
     still there, and nothing has more than it."""
     on = set(found.on)
-    firms = dict.fromkeys(firm for trade in found.document["trades"] if trade["name"] in on for firm in (trade["seller"], trade["buyer"]))
+    firms = dict.fromkeys(trade[side] for trade in found.document["trades"] if trade["name"] in on
+                          for side in ("seller", "buyer"))
     going = [*(("leave", firm) for firm in firms), *(("bar", trade) for trade in found.on)]
     said = list(_told(stream("session", _sessions(network(found.document), going), program=program)))
     states = [state.surplus for each in said if isinstance(each, Session) for state in each.edits[1::2]]  # (the first is of all)
@@ -116,14 +120,21 @@ def _sessions(document: Json, going: Sequence[tuple[str, str]]) -> Iterator[Json
         yield {**document, "edits": [["admit", "*"], *edits]}
 
 
-def _firm_marginals(found: Ranges, surplus: int, without: dict[tuple[str, str], int], program: Optional[Path]) -> Iterator[FirmMarginal]:
+def _trade_marginal(trade: Json, found: Ranges, surplus: int, without: Without) -> TradeMarginal:
+    name = trade["name"]
+    rest = without.get(("bar", name), surplus)
+    return TradeMarginal(name, trade["seller"], trade["buyer"], name in found.on, rest, surplus - rest)
+
+
+def _firm_marginals(found: Ranges, surplus: int, without: Without, program: Optional[Path]) -> Iterator[FirmMarginal]:
     at_prices, alone, low, high = _utilities(found, program)
     for name, each in at_prices.firms.items():
         base, rest = alone.firms[name].worth or 0, without.get(("leave", name), surplus)
         contribution, worth = surplus - rest, each.worth or 0
         gains = [None if said is None else (said.firms[name].utility or 0) - base for said in (low, high)]
         reached = None if None in gains else SAID[gains[0] == contribution, gains[1] == contribution]
-        yield FirmMarginal(name, each.has, worth, base, rest, contribution, worth - base - contribution, gains[0], gains[1], reached)
+        yield FirmMarginal(name, each.has, worth, base, rest, contribution, worth - base - contribution, gains[0], gains[1],
+                           reached)
 
 
 def _utilities(found: Ranges, program: Optional[Path]) -> tuple[Firms, Firms, Optional[Firms], Optional[Firms]]:
@@ -132,7 +143,8 @@ def _utilities(found: Ranges, program: Optional[Path]) -> tuple[Firms, Firms, Op
     plain = network(found.document)
     prices = solve(plain, program=program).prices
     low, high = whole(found.lowest), whole(found.highest)
-    asked = [at(plain, found.on, prices), at(plain, (), prices), *(at(plain, found.on, bounds) for bounds in (low, high) if bounds is not None)]
+    asked = [at(plain, found.on, prices), at(plain, (), prices)]
+    asked += [at(plain, found.on, bounds) for bounds in (low, high) if bounds is not None]
     said = iter([each for each in _told(stream("firms", asked, program=program)) if isinstance(each, Firms)])
     return next(said), next(said), None if low is None else next(said), None if high is None else next(said)
 

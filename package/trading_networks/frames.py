@@ -81,8 +81,8 @@ def table_of(rows: Any, path: str, columns: re.Pattern[str]) -> Table:
 
 def _row_of(path: str, number: int, row: Mapping[str, Any], head: Mapping[str, str]) -> Row:
     place = f"{path}, row {number}"
-    cells = {head[str(name)]: Cell(_text_of(value, f"{place} ({name})"), f"{place} ({head[str(name)]})") for name, value in row.items()}
-    return Row(number, place, cells)
+    named = ((head[str(name)], value) for name, value in row.items())
+    return Row(number, place, {name: Cell(_text_of(value, f"{place} ({name})"), f"{place} ({name})") for name, value in named})
 
 
 def _text_of(value: Any, place: str) -> str:

@@ -28,7 +28,7 @@ def warn(what: str) -> None:
     frame, level = sys._getframe(1), 2
     while frame.f_back is not None and frame.f_code.co_filename.startswith(PACKAGE):
         frame, level = frame.f_back, level + 1
-    warnings.warn(what, DocumentWarning, stacklevel=level - 1)
+    warnings.warn(what, DocumentWarning, stacklevel=level)
 
 
 def amounts_of(firm: str, amounts: Costs) -> dict[str, Fraction]:

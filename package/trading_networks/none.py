@@ -10,7 +10,7 @@ import tempfile
 from dataclasses import dataclass
 from typing import Optional
 
-from .errors import NoProgram
+from .errors import NoProgram, TimedOut
 from .kinds import Json
 from .program import NO, YES, Asked, Path, bytes_of, find, modules
 from .tables import Trouble
@@ -44,8 +44,11 @@ def no_prices(document: Asked, *, program: Optional[Path] = None, timeout: Optio
     with tempfile.TemporaryDirectory() as folder:
         file = pathlib.Path(folder) / "document.json"
         file.write_bytes(asked)
-        ended = subprocess.run([node, str(script), str(file)], capture_output=True, text=True, timeout=timeout, check=False,
-                               env={**os.environ, "MARKET": find(program)})
+        try:
+            ended = subprocess.run([node, str(script), str(file)], capture_output=True, text=True, timeout=timeout,
+                                   check=False, env={**os.environ, "MARKET": find(program)})
+        except subprocess.TimeoutExpired:
+            raise TimedOut(f"no_prices took longer than {timeout} s") from None
     if ended.returncode not in (YES, NO):
         raise Trouble(ended.stderr.strip())
     return Shown(ended.returncode == YES, json.loads(ended.stdout), ended.stderr.strip())

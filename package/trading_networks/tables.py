@@ -20,8 +20,8 @@ MARK = "\ufeff"
 TROUBLES = 20  # as many are told at once
 
 
-class Trouble(Exception):
-    """What is wrong in a table, with its place."""
+class Trouble(ValueError):
+    """What is wrong in a table, with its place, or with what a builder is given."""
 
 
 def raise_all(troubles: list[str]) -> None:
