@@ -11,20 +11,23 @@ from .amounts import Amount, exact
 from .lane_tables import BUYS, FIRM_COLUMNS, LANE_COLUMNS, PASSES_ON, SELLS, network_of
 from .lanes import Built, build, sizes_of
 from .tables import Cell, Form, Row, Table, Trouble, digits, head_of, plain
+from .unit_lanes import build_with_units
 
 MOST_DIGITS = 18
 FIRST_ROW = 2  # (rows are counted as a spreadsheet counts them, below the names of the columns)
 
 
 def from_lanes(firms: Any, lanes: Any, *, lot: Optional[Amount] = None, unit: Optional[Amount] = None,
-               is_rounded: bool = False) -> Built:
+               is_rounded: bool = False, has_units: bool = False) -> Built:
     """The document of two tables, each a data frame or an iterable of dictionaries with the columns of docs/LANES.md.
 
     lot: how much goes at once, unit: the least amount of money; where they aren't given, `sizes` tells which are taken.
-    Numbers may be floats here, each taken as the decimal number that it is written as.
+    Numbers may be floats here, each taken as the decimal number that it is written as. has_units: a lane is one trade with
+    so many units, in a document of version 4, and not a trade for each lot.
     """
     network = network_of(table_of(firms, "firms", FIRM_COLUMNS), table_of(lanes, "lanes", LANE_COLUMNS))
-    return build(network, sizes_of([network], _size("lot", lot), _size("unit", unit), is_rounded))
+    sizes = sizes_of([network], _size("lot", lot), _size("unit", unit), is_rounded)
+    return build_with_units(network, sizes) if has_units else build(network, sizes)
 
 
 def _size(name: str, size: Optional[Amount]) -> Optional[Fraction]:
@@ -36,7 +39,7 @@ def _size(name: str, size: Optional[Amount]) -> Optional[Fraction]:
 
 
 def from_networkx(graph: Any, *, lot: Optional[Amount] = None, unit: Optional[Amount] = None,
-                  is_rounded: bool = False) -> Built:
+                  is_rounded: bool = False, has_units: bool = False) -> Built:
     """The document of a directed graph of networkx: a firm for each node, and a lane for each edge.
 
     Attributes of nodes and edges are columns of docs/LANES.md, with `_` for a blank; of a node `cost` or `worth`, and of
@@ -52,7 +55,7 @@ def from_networkx(graph: Any, *, lot: Optional[Amount] = None, unit: Optional[Am
         else ((source, target, 0, data) for source, target, data in graph.edges(data=True)))
     lanes = [{"from": str(source), "to": str(target), **({"by": str(key)} if key != 0 else {}),
               **_columns(data, LANE_COLUMNS, ("cost",))} for source, target, key, data in edges]
-    return from_lanes(firms, lanes, lot=lot, unit=unit, is_rounded=is_rounded)
+    return from_lanes(firms, lanes, lot=lot, unit=unit, is_rounded=is_rounded, has_units=has_units)
 
 
 def _role(graph: Any, node: Any) -> str:

@@ -178,7 +178,7 @@ def up_to(most: Optional[int], steps: Steps) -> Steps:
 
 def seller(costs: Amounts, steps: Steps) -> Laminar:
     """A firm that sells: what each sale costs, and what each further unit does."""
-    return Laminar(sales=turned(costs), sets=[Counted(sales=list(costs), sold=_lost(steps))])
+    return Laminar(sales=turned(costs), sets=[Counted(sales=list(costs), sold=lost(steps))])
 
 
 def buyer(worths: Amounts, steps: Steps) -> Laminar:
@@ -194,8 +194,8 @@ def maker(inputs: Amounts, outputs: Amounts, steps: Steps) -> Laminar:
 def warehouse(inputs: Amounts, outputs: Amounts, steps: Steps, stock: Steps, room: Steps) -> Laminar:
     """A maker that may sell more than it buys, out of its stock, and buy more than it sells, into its room: what each
     unit is worth that it has no longer, or has more."""
-    through = Counted(list(inputs), list(outputs), room, _lost(stock))
-    return Laminar(turned(inputs), turned(outputs), [through, Counted(purchases=list(inputs), bought=_lost(steps))])
+    through = Counted(list(inputs), list(outputs), room, lost(stock))
+    return Laminar(turned(inputs), turned(outputs), [through, Counted(purchases=list(inputs), bought=lost(steps))])
 
 
 def turned(costs: Amounts) -> Amounts:
@@ -203,7 +203,7 @@ def turned(costs: Amounts) -> Amounts:
     return {trade: -cost for trade, cost in costs.items()}
 
 
-def _lost(steps: Steps) -> Steps:
+def lost(steps: Steps) -> Steps:
     """What each step costs as what it adds."""
     return [(count, -cost) for count, cost in steps]
 

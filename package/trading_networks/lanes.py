@@ -72,7 +72,8 @@ class LotSchedule:
 
 @dataclass(frozen=True)
 class Lot:
-    """A lot that may go by a lane: a trade of the document."""
+    """A lot that may go by a lane: a trade of the document, with what it costs. Where trades have units it is all lots of
+    the lane, with what the first one costs."""
     code: str
     lane: Lane
     cost: int
@@ -120,15 +121,20 @@ def in_lots(schedule: Schedule, sizes: Sizes, is_value: bool) -> LotSchedule:
     return LotSchedule(capacity, tuple(steps))
 
 
-def build(network: Network, sizes: Sizes) -> Built:
-    """The document of a network, within the limits of documents."""
+def schedules_of(network: Network, sizes: Sizes) -> tuple[dict[str, LotSchedule], list[LotSchedule]]:
+    """The schedules of the firms, by their names, and of the lanes, in lots; what can't be said of them is told together."""
     if len(network.firms) > LARGE.most:
         raise Trouble(f"{network.firms[LARGE.most].place}: a document has at most {LARGE.most} firms")
     troubles: list[str] = []
     firm_schedules = each(network.firms, lambda firm: in_lots(firm.schedule, sizes, firm.role == BUYS), troubles)
     lane_schedules = each(network.lanes, lambda lane: in_lots(lane.schedule, sizes, False), troubles)
     raise_all(troubles)
-    schedules = {firm.name: schedule for firm, schedule in zip(network.firms, firm_schedules)}
+    return {firm.name: schedule for firm, schedule in zip(network.firms, firm_schedules)}, lane_schedules
+
+
+def build(network: Network, sizes: Sizes) -> Built:
+    """The document of a network, within the limits of documents."""
+    schedules, lane_schedules = schedules_of(network, sizes)
     codes = codes_of(((firm.name, firm.row) for firm in network.firms), "firm")
     lots = [lot for lane, schedule in zip(network.lanes, lane_schedules) for lot in lots_of(lane, schedule, schedules)]
     version = version_of_lots(max(len(network.firms), len(lots)), most_own(lots))
@@ -152,8 +158,8 @@ def built_or_why(network: Network, sizes: Sizes) -> Union[Built, str]:
         return str(trouble)
 
 
-def lots_of(lane: Lane, schedule: LotSchedule, schedules: dict[str, LotSchedule]) -> Iterator[Lot]:
-    """As many lots as may go by the lane, but no more than one above what either of its firms could send or take.
+def most_by(lane: Lane, schedule: LotSchedule, schedules: dict[str, LotSchedule]) -> int:
+    """How many lots may go by the lane, but no more than one above what either of its firms could send or take.
 
     That one stays off, and at its price nobody wants a further lot; those after it would hold no other price.
     """
@@ -162,6 +168,12 @@ def lots_of(lane: Lane, schedule: LotSchedule, schedules: dict[str, LotSchedule]
     count = min((bound for bound in bounds if bound is not None), default=None)
     if count is None:
         raise Trouble(f"{lane.place}: neither this lane nor a firm at its ends has a capacity")
+    return count
+
+
+def lots_of(lane: Lane, schedule: LotSchedule, schedules: dict[str, LotSchedule]) -> Iterator[Lot]:
+    """The lots that may go by the lane, each with what it costs."""
+    count = most_by(lane, schedule, schedules)
     if count > LARGE.most_own:
         raise Trouble(f"{lane.place}: {count} lots may go by this lane, and a firm has at most {LARGE.most_own}: "
                       "take a larger --lot, or a smaller capacity")
