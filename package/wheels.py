@@ -6,6 +6,7 @@ It holds the package, the built program for Linux on x86-64 where it was built, 
 program is crates/market/out/market, or another one by --config-settings program=PATH. All times in the wheel are
 SOURCE_DATE_EPOCH, or else those of 1980, so that the same files make the same bytes.
 """
+import ast
 import base64
 import hashlib
 import os
@@ -38,6 +39,7 @@ def build_wheel(wheel_directory, config_settings=None, metadata_directory=None):
     files = {**package_files(), **node_files(), **({f"{PACKAGE}/program/market": program} if program.is_file() else {})}
     parts = {path: file.read_bytes() for path, file in files.items()}
     parts[f"{name}.dist-info/METADATA"] = metadata(project, version).encode()
+    parts[f"{name}.dist-info/LICENCE"] = licence()
     parts[f"{name}.dist-info/WHEEL"] = b"Wheel-Version: 1.0\nGenerator: wheels\nRoot-Is-Purelib: true\nTag: py3-none-any\n"
     record = f"{name}.dist-info/RECORD"
     lines = [recorded(path, parts[path]) for path in sorted(parts)]
@@ -77,13 +79,25 @@ def node_files():
     return {f"{PACKAGE}/node/{path}": HOME / path for path in found}
 
 
+def licence():
+    """The licence, or that there is none yet."""
+    file = HOME / "LICENCE"
+    if file.is_file():
+        return file.read_bytes()
+    return b"""No licence has been given yet.
+
+This is not for handing on: its owner has not said under which terms it may be used.
+"""
+
+
 def metadata(project, version):
-    """What the package says of itself."""
+    """What the package says of itself, and at last its own words."""
+    words = ast.get_docstring(ast.parse((HERE / PACKAGE / "__init__.py").read_text(encoding="utf-8")))
     lines = ["Metadata-Version: 2.1", f"Name: {project['name']}", f"Version: {version}", f"Summary: {project['description']}",
              f"Requires-Python: {project['requires-python']}"]
     for extra, needed in project["optional-dependencies"].items():
         lines += [f"Provides-Extra: {extra}", *(f'Requires-Dist: {each}; extra == "{extra}"' for each in needed)]
-    return "\n".join(lines) + "\n"
+    return "\n".join([*lines, "Description-Content-Type: text/plain", "", words, ""])
 
 
 def recorded(path, data):

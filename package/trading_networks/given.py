@@ -51,7 +51,7 @@ def rising(firm: str, up_to: Optional[int], steps: Optional[Stages], by: Amount,
     or as usual."""
     if steps is None:
         return _further(firm, _most(firm, up_to, usual), exact(by, f"{firm}, rises_by"), 1)
-    listed = _listed(firm, steps)
+    listed = _listed(firm, steps, by)
     if any(after < before for (_, before), (_, after) in zip(listed, listed[1:])):
         raise Trouble(f"{firm}, steps: the cost of a unit falls from the step before, which can't be said")
     return kinds.up_to(_most(firm, up_to, None), listed)
@@ -61,7 +61,7 @@ def falling(firm: str, up_to: Optional[int], steps: Optional[Stages], by: Amount
     """What each further unit is worth, in the same way, where each is worth less than the one before."""
     if steps is None:
         return _further(firm, _most(firm, up_to, usual), exact(by, f"{firm}, falls_by"), -1)
-    listed = _listed(firm, steps)
+    listed = _listed(firm, steps, by)
     if any(after > before for (_, before), (_, after) in zip(listed, listed[1:])):
         raise Trouble(f"{firm}, steps: what a unit is worth rises from the step before, which can't be said")
     return kinds.up_to(_most(firm, up_to, None), listed)
@@ -71,7 +71,9 @@ def _most(firm: str, up_to: Optional[int], usual: Optional[int]) -> Optional[int
     return usual if up_to is None else count_of(up_to, f"{firm}, up_to")
 
 
-def _listed(firm: str, steps: Stages) -> list[tuple[Optional[int], Fraction]]:
+def _listed(firm: str, steps: Stages, by: Amount) -> list[tuple[Optional[int], Fraction]]:
+    if by:
+        raise Trouble(f"{firm}: `steps` and by how much each further unit rises or falls are two ways to say one thing")
     return [(None if count is None else count_of(count, f"{firm}, steps"), exact(amount, f"{firm}, steps"))
             for count, amount in steps]
 
