@@ -1,4 +1,6 @@
-"""Random firms for tools/package_test, and what each bundle of them is worth by the words that say what a builder makes."""
+"""Random firms for tools/package_test, and what each bundle of them is worth by the words that say what a builder makes.
+The test has put the package on the path.
+"""
 import itertools
 from decimal import Decimal
 from fractions import Fraction

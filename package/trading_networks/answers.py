@@ -154,7 +154,7 @@ class Ranges(Answer):
     """Of `ranges`: how far each price may move, over all equilibria.
 
     on: the trades of an efficient set, a tuple of names in the order of the document.
-    ranges: a dictionary from every trade to its Range.
+    ranges: a dictionary from every trade to its Range, which ranges["trade"] is too.
     """
     answer = "ranges"
     columns = ("trade", "seller", "buyer", "on", "low", "high")

@@ -58,9 +58,11 @@ LIMITS: dict[str, dict[str, int]] = {"1": {"most": 64, **_FEW}, "2": {"most": 12
                 "over": 10 ** 6}}
 
 # The limits by the member, or the kind of firm, that has them: a part of LIMITS and how much more, or one for all versions.
-_OF_MEMBERS: dict[str, Union[int, tuple[str, int]]] = {"firms": ("most", 0), "trades": ("most", 0), "edits": ("edits", 0), "nodes": ("most", 1), "sets": 64,
-               "values": ("values", 0), "from": ("farthest", 0), "plan": 1024}
-_OF_KINDS: dict[str, Union[int, tuple[str, int]]] = {"table": 14, "laminar": ("own", 0), "middleman": ("own", 0), "dealer": ("own", 0)}
+_Bound = Union[int, tuple[str, int]]
+_OF_MEMBERS: dict[str, _Bound] = {
+    "firms": ("most", 0), "trades": ("most", 0), "edits": ("edits", 0), "nodes": ("most", 1), "sets": 64,
+    "values": ("values", 0), "from": ("farthest", 0), "plan": 1024}
+_OF_KINDS: dict[str, _Bound] = {"table": 14, "laminar": ("own", 0), "middleman": ("own", 0), "dealer": ("own", 0)}
 
 TEXTS: dict[str, Any] = {
     "fault.problem": "Line {line}, column {column}: {problem}.",
@@ -586,7 +588,7 @@ def _limit_line(network: _Network, place: list[Any], value: Any) -> Optional[str
     return _bound_line(network, firm["kind"], _OF_KINDS[firm["kind"]], own)
 
 
-def _bound_line(network: _Network, name: str, bound: Union[int, tuple[str, int]], count: int) -> str:
+def _bound_line(network: _Network, name: str, bound: _Bound, count: int) -> str:
     """A limit with what was found, and the first version that has room for it, where one has."""
     def most(limits: dict[str, int]) -> int:
         return bound if isinstance(bound, int) else limits[bound[0]] + bound[1]

@@ -194,7 +194,7 @@ def maker(inputs: Amounts, outputs: Amounts, steps: Steps) -> Laminar:
 def warehouse(inputs: Amounts, outputs: Amounts, steps: Steps, stock: Steps, room: Steps) -> Laminar:
     """A maker that may sell more than it buys, out of its stock, and buy more than it sells, into its room: what each
     unit is worth that it has no longer, or has more."""
-    through = Counted(list(inputs), list(outputs), room, lost(stock))
+    through = Counted(purchases=list(inputs), sales=list(outputs), bought=room, sold=lost(stock))
     return Laminar(turned(inputs), turned(outputs), [through, Counted(purchases=list(inputs), bought=lost(steps))])
 
 

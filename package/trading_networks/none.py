@@ -40,6 +40,8 @@ def no_prices(document: Asked, *, program: Optional[Path] = None, timeout: Optio
     if node is None:
         raise NoProgram("whether there are no prices is found by node 18 or later (Debian's package nodejs), and there is "
                         "none here")
+    if not script.is_file():
+        raise NoProgram(f"whether there are no prices is found by {script}, which comes with the wheel alone")
     asked = bytes_of(document)
     with tempfile.TemporaryDirectory() as folder:
         file = pathlib.Path(folder) / "document.json"
