@@ -12,7 +12,7 @@ fractions, decimals, and floats that are whole; `unit` says of what they are the
 from __future__ import annotations
 
 from fractions import Fraction
-from typing import Iterable, Mapping, Optional, Union
+from typing import Any, Iterable, Mapping, Optional, Union
 
 from . import kinds
 from .amounts import Amount, count_of, exact
@@ -171,7 +171,7 @@ class Document:
 
     def _add(self, name: str, kind: Kind) -> Document:
         """Adds a firm, and what it says of the ends of its trades."""
-        if name in self._firms:
+        if _named(name) in self._firms:
             raise Trouble(f"{name} is a firm already")
         self._firms[name] = kind
         for trade in kind.own():
@@ -182,7 +182,13 @@ class Document:
         return self
 
     def _known(self, trade: str) -> Trade:
-        return self._trades.setdefault(trade, Trade())
+        return self._trades.setdefault(_named(trade), Trade())
+
+
+def _named(name: Any) -> str:
+    if not isinstance(name, str):
+        raise Trouble(f"{name!r} is no name: firms and trades are called by a text")
+    return name
 
 
 def _prices(prices: Mapping[str, Amount]) -> dict[str, Fraction]:

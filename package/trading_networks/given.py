@@ -32,8 +32,9 @@ def warn(what: str) -> None:
 
 
 def amounts_of(firm: str, amounts: Costs) -> dict[str, Fraction]:
-    """Amounts by trade; names alone have 0."""
-    listed = amounts if isinstance(amounts, Mapping) else dict.fromkeys(amounts, 0)
+    """Amounts by trade; names alone have 0, and a text is one name."""
+    names = [amounts] if isinstance(amounts, str) else amounts
+    listed = names if isinstance(names, Mapping) else dict.fromkeys(names, 0)
     return {trade: exact(amount, f"{firm}, {trade}") for trade, amount in listed.items()}
 
 
@@ -74,6 +75,8 @@ def _most(firm: str, up_to: Optional[int], usual: Optional[int]) -> Optional[int
 def _listed(firm: str, steps: Stages, by: Amount) -> list[tuple[Optional[int], Fraction]]:
     if by:
         raise Trouble(f"{firm}: `steps` and by how much each further unit rises or falls are two ways to say one thing")
+    if any(count is None for count, _ in steps[:-1]):
+        raise Trouble(f"{firm}, steps: a step without a number goes on, so only the last one may have none")
     return [(None if count is None else count_of(count, f"{firm}, steps"), exact(amount, f"{firm}, steps"))
             for count, amount in steps]
 
