@@ -92,10 +92,20 @@ class Writing:
         if len(known) + len(others) != 2 or len(others) == 2:
             raise Trouble(f"{name}: {self.why_no_ends(trade, known, others, name)}")
         seller, buyer = (trade.sellers or others)[0], (trade.buyers or others)[0]
-        unknown = [firm for firm in (seller, buyer) if firm not in self.firms]
-        if unknown:
-            raise Trouble(f"{name}: {unknown[0]} is no firm of the document")
+        if seller == buyer:
+            raise Trouble(f"{name}: {seller} would sell it to itself")
+        self.hold_own(name, seller, "sells")
+        self.hold_own(name, buyer, "buys")
         return seller, buyer
+
+    def hold_own(self, name: str, firm: str, verb: str) -> None:
+        """Says where a firm doesn't know a trade of its own: it would have it for nothing, as often as it likes. To a table
+        such a trade is impossible."""
+        kind = self.firms.get(firm)
+        if kind is None:
+            raise Trouble(f"{name}: {firm} is no firm of the document")
+        if firm not in self.tables and name not in (kind.sales if verb == "sells" else kind.purchases):
+            raise Trouble(f"{name}: {firm} doesn't name it among what it {verb}")
 
     def why_no_ends(self, trade: Trade, known: list[str], others: list[str], name: str) -> str:
         """What is wrong with a trade that hasn't one seller and one buyer."""
