@@ -68,7 +68,8 @@ one_amount counts amount amounts t once = elim (cases_eq t amount.trade) [
       (eq-eqb amount.trade t (sym same)) in
       let there = ap (λ (b : Bool). if b then amount.number *ℤ pos (counts amount.trade) else pos 0)
       (eq-eqb t amount.trade same) in
-      let none : first_amount amounts t ≡ pos 0 = ap (first_amount amounts) same ∙ first_unlisted amounts amount.trade once in
+      let none : first_amount amounts t ≡ pos 0 = ap (first_amount amounts) same
+      ∙ first_unlisted amounts amount.trade once in
       let first : first_amount (amount ∷ amounts) t *ℤ pos (counts t) ≡ amount.number *ℤ pos (counts amount.trade) =
       ap (λ (z : ℤ). z *ℤ pos (counts t)) here ∙ ap (λ (k : ℕ). amount.number *ℤ pos (counts k)) same in
       let rest : first_amount amounts t *ℤ pos (counts t) ≡ pos 0 =
@@ -102,7 +103,8 @@ amounts_total counts n (amount ∷ amounts) once known =
 
 -- the firms of a document give amounts of own trades
 abbrev pub GiveOwn : List UnitTrade → List WrittenFirm → Type 0
-GiveOwn trades firms = (f : ℕ) (firm : WrittenFirm) → slice_get firms f ≡ Some firm → AreOwnAmounts trades f firm.amounts
+GiveOwn trades firms = (f : ℕ) (firm : WrittenFirm) → slice_get firms f ≡ Some firm
+    → AreOwnAmounts trades f firm.amounts
 
 -- the amounts are by trade
 abbrev pub AreByTrade : List UnitTrade → List WrittenFirm → List UnitAmounts → Type 0
@@ -166,13 +168,22 @@ module _ (trades : List UnitTrade) (firms : List WrittenFirm) (give : GiveOwn tr
         (ne_eqb f (trade_at trades t).seller other) in
         elim (cases_eq f (trade_at trades t).buyer) [
           | inl buys ↦
-              let second = ap (λ (b : Bool). if b then first_amount (entries_of firms (trade_at trades t).buyer) t else pos 0)
+              let second = ap (λ (b : Bool). if b then first_amount (entries_of firms
+              (trade_at trades t).buyer) t else pos 0)
               (eq-eqb f (trade_at trades t).buyer buys) in
               omega (arith, ints, first, second, entries_are f (trade_at trades t).buyer t firm is (sym buys))
           | inr none ↦
-              let second = ap (λ (b : Bool). if b then first_amount (entries_of firms (trade_at trades t).buyer) t else pos 0)
+              let second = ap (λ (b : Bool). if b then first_amount (entries_of firms
+              (trade_at trades t).buyer) t else pos 0)
               (ne_eqb f (trade_at trades t).buyer none) in
-              omega (arith, ints, first, second, none_of_others f t firm is inside (λ e. other (sym e)) (λ e. none (sym e)))
+              omega (
+                arith,
+                ints,
+                first,
+                second,
+                none_of_others f t firm is inside (λ e. other (sym e)) (λ e. none
+                    (sym e)),
+              )
         ]
   ]
 

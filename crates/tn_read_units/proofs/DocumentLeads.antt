@@ -83,7 +83,8 @@ step_leads place entry =
     (record { some = is.some; few = is.few; small = small }))))
 
 module _ (at : SetAt) (word : Word) where
-  one_step_leads : (steps : List Step) (entry : Data) → All IsStep steps → Leads (All IsStep) (one_step at word steps entry)
+  one_step_leads : (steps : List Step) (entry : Data) → All IsStep steps
+      → Leads (All IsStep) (one_step at word steps entry)
   unfolding one_step
   one_step_leads steps entry all =
       leads_bind IsStep (All IsStep) (step_at (part_place at word ++ Index (length steps) ∷ []) entry) _
@@ -104,7 +105,8 @@ module _ (at : SetAt) (word : Word) where
       leads_after AreSteps (optional_list_at (part_place at word) value) _ (λ entries.
       leads_bind (λ _. nat_le (items_len entries) most_steps ≡ true) AreSteps
       (holds Limit (part_place at word) (nat_le (items_len entries) most_steps)) _
-      (leads_holds Limit (part_place at word) (nat_le (items_len entries) most_steps)) (λ u few. leads_as (λ steps. All IsStep steps
+      (leads_holds Limit (part_place at word) (nat_le (items_len entries) most_steps)) (λ u few. leads_as
+      (λ steps. All IsStep steps
       × (length steps ≡ 0 + items_len entries)) AreSteps (each (one_step at word) [] entries)
       (λ steps are. record {
         few = omega (arith, are.1, le_from_test (items_len entries) most_steps few);
@@ -121,7 +123,8 @@ module _ (at : SetAt) where
   one_value_leads : (numbers : List ℤ) (value : Data) → AreSmall numbers → Leads AreSmall (one_value at numbers value)
   unfolding one_value
   one_value_leads numbers value all =
-      leads_bind (λ z. IsAtMost z most_number) AreSmall (number_at most_number (part_place at Values ++ Index (length numbers) ∷ []) value) _
+      leads_bind (λ z. IsAtMost z most_number) AreSmall (number_at most_number (part_place at Values ++ Index
+      (length numbers) ∷ []) value) _
       (number_leads most_number (part_place at Values ++ Index (length numbers) ∷ []) (Some value))
       (λ z small. leads_ok AreSmall (numbers ++ z ∷ []) (All-push (λ z. IsAtMost z most_number) numbers z all small))
 
@@ -129,7 +132,8 @@ module _ (at : SetAt) where
       → Leads (λ next. length next ≡ length numbers + 1) (one_value at numbers value)
   unfolding one_value
   one_value_more numbers value =
-      leads_after (λ next. length next ≡ length numbers + 1) (number_at most_number (part_place at Values ++ Index (length numbers) ∷ []) value) _
+      leads_after (λ next. length next ≡ length numbers + 1) (number_at most_number (part_place at Values ++ Index
+      (length numbers) ∷ []) value) _
       (λ z. leads_ok (λ next. length next ≡ length numbers + 1) (numbers ++ z ∷ []) (length-append numbers (z ∷ [])))
 
   values_lead : (value : Option Data) → Leads AreNumbers (values_at at value)
@@ -222,10 +226,12 @@ module _ (head : UnitTrades) (f : ℕ) where
   unfolding one_member
   one_member_leads place members value are =
       leads_bind (λ own. IsOwn head.trades f own.0 own.1) (AreMembers head.trades f)
-      (own_trade head f (place ++ Index (size members.named) ∷ []) value) _ (own_leads (place ++ Index (size members.named) ∷ []) value) (λ own is.
+      (own_trade head f (place ++ Index (size members.named) ∷ []) value) _ (own_leads (place ++ Index
+      (size members.named) ∷ []) value) (λ own is.
       leads_bind (λ _. not (has members.named own.0) ≡ true) (AreMembers head.trades f)
       (holds SameTrade (place ++ Index (size members.named) ∷ []) (not (has members.named own.0))) _
-      (leads_holds SameTrade (place ++ Index (size members.named) ∷ []) (not (has members.named own.0))) (λ u new. leads_ok (AreMembers head.trades f)
+      (leads_holds SameTrade (place ++ Index (size members.named) ∷ []) (not (has members.named own.0)))
+      (λ u new. leads_ok (AreMembers head.trades f)
       (record { named = toggle members.named own.0; trades = members.trades ++ own.0 ∷ [] })
       (members_more members own.0 own.1 are is (is_true_not (has members.named own.0) new))))
 
@@ -244,10 +250,10 @@ module _ (head : UnitTrades) (f : ℕ) where
   once_more (first ∷ amounts) amount once new =
       let two = or_parts (first.trade == amount.trade) (has_amount amounts amount.trade) new in
       let apart : (amount.trade == first.trade) ≡ false =
-      ne_eqb amount.trade first.trade (λ e. eqb-false first.trade amount.trade two.0 (sym e)) in
-      (
+      ne_eqb amount.trade first.trade (λ e. eqb-false first.trade amount.trade two.0 (sym e)) in (
         list_any-append (λ (other : Amount). other.trade == first.trade) amounts (amount ∷ [])
-            ∙ ap (λ (b : Bool). b || ((amount.trade == first.trade) || false)) once.0 ∙ ap (λ (b : Bool). b || false) apart,
+            ∙ ap (λ (b : Bool). b || ((amount.trade == first.trade) || false)) once.0
+            ∙ ap (λ (b : Bool). b || false) apart,
         once_more amounts amount once.1 two.1,
       )
 
@@ -262,16 +268,20 @@ module _ (head : UnitTrades) (f : ℕ) where
   }
 
   one_amount_leads : (place : List PlaceStep) (amounts : OwnAmounts) (entry : Data)
-      → AreOwnAmounts head.trades f amounts → Leads (AreOwnAmounts head.trades f) (one_amount head f place amounts entry)
+      → AreOwnAmounts head.trades f amounts → Leads (AreOwnAmounts head.trades f)
+      (one_amount head f place amounts entry)
   unfolding one_amount
   one_amount_leads place amounts entry are =
       leads_after (AreOwnAmounts head.trades f) (two_at (place ++ Index (size amounts.named) ∷ []) entry) _ (λ two.
-      leads_bind (λ own. IsOwn head.trades f own.0 own.1) (AreOwnAmounts head.trades f) (own_trade head f (place ++ Index (size amounts.named) ∷ Index 0 ∷ []) two.0) _
+      leads_bind (λ own. IsOwn head.trades f own.0 own.1) (AreOwnAmounts head.trades f) (own_trade head f
+      (place ++ Index (size amounts.named) ∷ Index 0 ∷ []) two.0) _
       (own_leads (place ++ Index (size amounts.named) ∷ Index 0 ∷ []) two.0) (λ own is.
       leads_bind (λ _. not (has amounts.named own.0) ≡ true) (AreOwnAmounts head.trades f)
       (holds SameTrade (place ++ Index (size amounts.named) ∷ Index 0 ∷ []) (not (has amounts.named own.0))) _
-      (leads_holds SameTrade (place ++ Index (size amounts.named) ∷ Index 0 ∷ []) (not (has amounts.named own.0))) (λ u new.
-      leads_bind (λ z. IsAtMost z most_number) (AreOwnAmounts head.trades f) (number_at most_number (place ++ Index (size amounts.named) ∷ Index 1 ∷ []) two.1) _
+      (leads_holds SameTrade (place ++ Index (size amounts.named) ∷ Index 0 ∷ []) (not (has amounts.named own.0)))
+      (λ u new.
+      leads_bind (λ z. IsAtMost z most_number) (AreOwnAmounts head.trades f) (number_at most_number (place ++ Index
+      (size amounts.named) ∷ Index 1 ∷ []) two.1) _
       (number_leads most_number (place ++ Index (size amounts.named) ∷ Index 1 ∷ []) (Some two.1)) (λ number small.
       let amount : Amount = record { trade = own.0; side = own.1; number = number } in
       leads_ok (AreOwnAmounts head.trades f)
@@ -283,7 +293,8 @@ module _ (head : UnitTrades) (f : ℕ) where
   unfolding amounts_at
   amounts_lead value =
       leads_after (AreOwnAmounts head.trades f) (optional_list_at (amounts_place f) value) _ (λ entries.
-      leads_each (AreOwnAmounts head.trades f) (one_amount head f (amounts_place f)) (one_amount_leads (amounts_place f))
+      leads_each (AreOwnAmounts head.trades f) (one_amount head f (amounts_place f)) (one_amount_leads
+      (amounts_place f))
       (record { named = 0; entries = [] }) entries
       (record { each = All-nil (IsOwnAmount head.trades f); once = tt; named = λ t. has-zero t }))
 
@@ -347,7 +358,8 @@ module _ (head : UnitTrades) (f : ℕ) where
       (leads_both (All IsReadSet) (λ sets. length sets ≡ 0 + items_len items) (sets_of head f items)
       (leads_each (All IsReadSet) (one_set head f) one_set_leads [] items (All-nil IsReadSet))
       (leads_count (λ (sets : List WrittenSet). length sets) (one_set head f) one_set_more [] items)) (λ sets are.
-      leads_bind (λ _. AreTested [] sets) (AreReadSets before) (check_sets f [] sets) _ (sets_lead f [] sets) (λ v tested.
+      leads_bind (λ _. AreTested [] sets) (AreReadSets before) (check_sets f [] sets) _ (sets_lead f [] sets)
+      (λ v tested.
       leads_ok (AreReadSets before) sets (record {
         each = are.0;
         tested = tested;
@@ -366,7 +378,8 @@ module _ (head : UnitTrades) (f : ℕ) where
   }
     where
       both_said : (numbers : Option SetNumbers) → IfSome numbers (λ set. AreNumbers set.numbers)
-          → IfSome numbers (λ set. (set.low ≤ℤ pos 0) × (unsigned_abs set.low < length set.numbers)) → IfSome numbers AreAroundNone
+          → IfSome numbers (λ set. (set.low ≤ℤ pos 0) × (unsigned_abs set.low < length set.numbers))
+          → IfSome numbers AreAroundNone
       both_said None are from = tt
       both_said (Some numbers) are from = record { are = are; from = from.0; inside = from.1 }
 

@@ -25,7 +25,8 @@ Fall (step ∷ steps) = AddAtMost step.each steps × Fall steps
 
 at_most_more : (limit more : ℤ) (steps : List Step) → limit ≤ℤ more → AddAtMost limit steps → AddAtMost more steps
 at_most_more limit more steps order few =
-    All-weaker (λ step. step.each ≤ℤ limit) (λ step. step.each ≤ℤ more) (λ step h. omega (arith, ints, h, order)) steps few
+    All-weaker (λ step. step.each ≤ℤ limit) (λ step. step.each ≤ℤ more) (λ step h. omega
+    (arith, ints, h, order)) steps few
 
 pub falling_from : (steps : List Step) → Fall steps → AreFalling steps
 falling_from [] fall i k a b less first second = absurd (none-some a first)
@@ -45,8 +46,11 @@ first_falls : (before : Option Step) (step : Step) (steps : List Step) → rises
     → FallAfter (Some step) steps → FallAfter before (step ∷ steps)
 first_falls None step steps falls rest = rest
 first_falls (Some before) step steps falls rest =
-    let order : step.each ≤ℤ before.each = grind (arith, ints, falls) in
-    (All-cons (λ (s : Step). s.each ≤ℤ before.each) step steps order (at_most_more step.each before.each steps order rest.0), rest)
+    let order : step.each ≤ℤ before.each = grind (arith, ints, falls) in (
+      All-cons (λ (s : Step). s.each ≤ℤ before.each) step steps order
+          (at_most_more step.each before.each steps order rest.0),
+      rest,
+    )
 
 pub fall_after : (k : ℕ) (before : Option Step) (steps : List Step) → first_rise k before steps ≡ None
     → FallAfter before steps
@@ -55,7 +59,8 @@ fall_after k (Some before) [] none = (All-nil (λ (s : Step). s.each ≤ℤ befo
 fall_after k before (step ∷ steps) none =
     by (λ q. fall_after (k + 1) (Some step) steps q) (rises before step) refl none
   where
-    by : (first_rise (k + 1) (Some step) steps ≡ None → FallAfter (Some step) steps) → (t : Bool) → rises before step ≡ t
+    by : (first_rise (k + 1) (Some step) steps ≡ None → FallAfter (Some step) steps) → (t : Bool)
+        → rises before step ≡ t
         → (if t then Some k else first_rise (k + 1) (Some step) steps) ≡ None → FallAfter before (step ∷ steps)
     by rest true rise q = absurd (none-some k (sym q))
     by rest false falls q = first_falls before step steps falls (rest q)
@@ -92,7 +97,8 @@ meet_at_none : (bought sold : List Step) → Fall bought → Fall sold → rises
 meet_at_none [] sold bought_fall sold_fall none =
     All-weaker (λ (s : Step). s ≡ s) (λ (s : Step). AddAtMost (turned s).each [])
     (λ s h. All-nil (λ (o : Step). o.each ≤ℤ (turned s).each)) sold (λ k d inside. refl)
-meet_at_none (first ∷ bought) [] bought_fall sold_fall none = All-nil (λ (s : Step). AddAtMost (turned s).each (first ∷ bought))
+meet_at_none (first ∷ bought) [] bought_fall sold_fall none = All-nil (λ (s : Step). AddAtMost (turned s).each
+    (first ∷ bought))
 meet_at_none (first ∷ bought) (other ∷ sold) bought_fall sold_fall none =
     let meet : (first.each +ℤ other.each) ≤ℤ pos 0 = grind (arith, ints, none) in
     All-weaker (λ (s : Step). s.each ≤ℤ other.each) (λ (s : Step). AddAtMost (turned s).each (first ∷ bought))

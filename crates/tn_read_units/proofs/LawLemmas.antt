@@ -1,6 +1,6 @@
 -- The laws of reading documents of units.
-use Rattle.std.proofs.Common.{◌≡◌, length, arith}
-use Rattle.serde_json.specs.Data.{Data}
+use Rattle.std.proofs.Common.{◌≡◌, length, Ok, arith}
+use Rattle.serde_json.specs.Data.{Data, Items}
 use Rattle.serde_json.specs.Events.{items_len}
 use Rattle.tn_read_shapes.proofs.LeadLemmas.{Leads, leads_after, leads_bind, leads_ok}
 use Rattle.tn_read_shapes.proofs.StopLemmas.{IsPlain, Stops, stops_after, stops_bind, stops_ok}
@@ -8,10 +8,11 @@ use Rattle.tn_read_head.specs.Beside.{IsStop, with_names}
 use Rattle.tn_read_head.proofs.BesideLemmas.{leads_beside, stops_beside}
 use Rattle.tn_read_head.proofs.ListingStops.{plain_stop}
 use Rattle.tn_read_units.specs.Documents.{IsUnitDocument}
-use Rattle.tn_read_units.specs.Firms.{document_of, firms_of}
-use Rattle.tn_read_units.specs.Heads.{head_of}
+use Rattle.tn_read_units.specs.Firms.{WrittenFirms, document_of, firms_of}
+use Rattle.tn_read_units.specs.Heads.{AreUnitTrades, head_of}
+use Rattle.tn_read_units.specs.Trades.{UnitTrades}
 use Rattle.tn_read_units.specs.Stops.{IsNamedDocument, UnitDocumentsAreNamed, UnitFaultsAreSayable}
-use Rattle.tn_read_units.proofs.DocumentLeads.{AreFirmsRead, firms_lead}
+use Rattle.tn_read_units.proofs.DocumentLeads.{firms_lead}
 use Rattle.tn_read_units.proofs.FirmStops.{firms_stop}
 use Rattle.tn_read_units.proofs.HeadLeads.{IsUnitHead, head_leads, head_stops}
 
@@ -25,20 +26,29 @@ document_named top =
       trade_names = is.names.trades;
     })))
 
+-- the head and the firms make a document
+pub document_from : (head : UnitTrades) (items : Items) (all : WrittenFirms) → AreUnitTrades head
+    → length head.names.firms ≡ items_len items → firms_of head items ≡ Ok all
+    → IsUnitDocument (record { head = head; firms = all.firms })
+document_from head items all kept count is =
+    let are = (firms_lead head items).at all is in
+    record {
+      head = kept;
+      named = omega (arith, are.1, count);
+      few_sets = omega (arith, are.0.counted, are.0.few);
+      each = are.0.each;
+    }
+
 pub document_leads : (top : Data) → Leads IsUnitDocument (document_of top)
 unfolding document_of
 document_leads top =
     leads_bind IsUnitHead IsUnitDocument (head_of top) _ (head_leads top) (λ read is.
-    leads_bind (λ all. AreFirmsRead read.0 all × (length all.firms ≡ items_len read.1)) IsUnitDocument
+    leads_bind (λ all. firms_of read.0 read.1 ≡ Ok all) IsUnitDocument
     (with_names read.0.names (firms_of read.0 read.1)) _
-    (leads_beside (λ all. AreFirmsRead read.0 all × (length all.firms ≡ items_len read.1)) read.0.names
-    (firms_of read.0 read.1) (firms_lead read.0 read.1)) (λ all are.
-    leads_ok IsUnitDocument (record { head = read.0; firms = all.firms }) (record {
-      head = is.trades;
-      named = let count = is.count in omega (arith, are.1, count);
-      few_sets = omega (arith, are.0.counted, are.0.few);
-      each = are.0.each;
-    })))
+    (leads_beside (λ all. firms_of read.0 read.1 ≡ Ok all) read.0.names (firms_of read.0 read.1)
+    (record { at = λ all e. e })) (λ all are.
+    leads_ok IsUnitDocument (record { head = read.0; firms = all.firms })
+    (document_from read.0 read.1 all is.trades is.count are)))
 
 pub unit_document_stops : (top : Data) → Stops IsStop (document_of top)
 unfolding document_of

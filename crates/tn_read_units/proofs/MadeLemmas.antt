@@ -10,7 +10,8 @@ use Rattle.tn_read_units.specs.Placed.{PlacedSet, all_placed, placed}
 use Rattle.tn_read_units.specs.Sets.{WrittenSet}
 
 -- the amounts of a trade more
-pub amounts_more : (amounts : List UnitAmounts) (n : ℕ) (next : UnitAmounts) (all : ℕ → UnitAmounts) → length amounts ≡ n
+pub amounts_more : (amounts : List UnitAmounts) (n : ℕ) (next : UnitAmounts) (all : ℕ → UnitAmounts)
+    → length amounts ≡ n
     → ((k : ℕ) → k < n → amounts_at amounts k ≡ all k) → next ≡ all n
     → (k : ℕ) → k < n + 1 → amounts_at (amounts ++ next ∷ []) k ≡ all k
 amounts_more amounts n next all count before is k below =
@@ -26,7 +27,8 @@ amounts_more amounts n next all count before is k below =
     ]
 
 -- a set of a firm more
-pub set_more : (old items : List PlacedSet) (f : ℕ) (written : List WrittenSet) (k : ℕ) (d : WrittenSet) (next : PlacedSet)
+pub set_more : (old items : List PlacedSet) (f : ℕ) (written : List WrittenSet) (k : ℕ) (d : WrittenSet)
+    (next : PlacedSet)
     → k < length written → next ≡ placed f (get_or written k d) → items ≡ old ++ map (placed f) (take k written)
     → items ++ next ∷ [] ≡ old ++ map (placed f) (take (k + 1) written)
 set_more old items f written k d next inside is before =

@@ -58,7 +58,8 @@ made_from document market firms trades firms_are trades_are count same as_many b
   as_many = as_many ∙ ap length trades_are;
   by_trade = subst (λ (l : List UnitTrade). AreByTrade l document.firms market.amounts.items) trades_are
       (subst (λ (w : List WrittenFirm). AreByTrade trades w market.amounts.items) firms_are by_trade);
-  sets = subst (λ (w : List WrittenFirm). IsPermutation (all_placed 0 w) (map as_placed market.sets.items)) firms_are sets;
+  sets = subst (λ (w : List WrittenFirm). IsPermutation (all_placed 0 w)
+      (map as_placed market.sets.items)) firms_are sets;
   sorted = sorted;
 }
 
@@ -76,7 +77,8 @@ abbrev counted : List UnitTrade → ℕ → WrittenFirm → CountFirm
 counted trades f firm = record { worth = written_worth trades f firm }
 
 -- the firm as it is written
-pub record IsWrittenAt (trades : List UnitTrade) (first : ℕ) (firms : List WrittenFirm) (f : ℕ) (firm : CountFirm) : Type
+pub record IsWrittenAt (trades : List UnitTrade) (first : ℕ) (firms : List WrittenFirm) (f : ℕ)
+    (firm : CountFirm) : Type
     0 where
   pub written : WrittenFirm
   pub at : slice_get firms f ≡ Some written
@@ -174,7 +176,8 @@ module _ (document : UnitDocument) (is : IsUnitDocument document) where
         let same : each ≡ amounts_for document.firms t (trade_at document.head.trades t) =
         sym (get_or_from_slice_get market.amounts.items t each (record { seller = pos 0; buyer = pos 0 }) at)
         ∙ made.by_trade t inside in
-        let give = λ (f : ℕ) (firm : WrittenFirm) (at : slice_get document.firms f ≡ Some firm). (is.each f firm at).amounts in
+        let give = λ (f : ℕ) (firm : WrittenFirm) (at : slice_get document.firms f
+        ≡ Some firm). (is.each f firm at).amounts in
         let seller = amounts_small document.head.trades document.firms give (trade_at document.head.trades t).seller t
         between.seller in
         let buyer = amounts_small document.head.trades document.firms give (trade_at document.head.trades t).buyer t
@@ -208,13 +211,21 @@ module _ (document : UnitDocument) (is : IsUnitDocument document) where
         (subst (λ (s : CountSet). length (get_or market.sets.items i inner).members.items ≤ length s.members.items)
         (get_or_from_slice_get market.sets.items k outer inner outer_is)
         (made.sorted i k inner (omega (arith, less)) (slice_get_within market.sets.items k outer outer_is))) in
-        let places : one.place ≡ two.place = omega (arith, ap (λ (p : PlacedSet). p.firm) one.is, ap (λ (p : PlacedSet). p.firm) two.is, same) in
+        let places : one.place ≡ two.place = omega (
+          arith,
+          ap (λ (p : PlacedSet). p.firm) one.is,
+          ap
+              (λ (p : PlacedSet). p.firm) two.is,
+          same,
+        ) in
         let firms : two.firm ≡ one.firm =
         same_Some two.firm one.firm (sym two.firm_is ∙ ap (slice_get document.firms) (sym places) ∙ one.firm_is) in
         let other_is : slice_get one.firm.sets two.at ≡ Some two.written =
         subst (λ (w : WrittenFirm). slice_get w.sets two.at ≡ Some two.written) firms two.written_is in
-        let inner_members : inner.members.items ≡ one.written.members.trades = ap (λ (p : PlacedSet). p.members) one.is in
-        let outer_members : outer.members.items ≡ two.written.members.trades = ap (λ (p : PlacedSet). p.members) two.is in
+        let inner_members : inner.members.items ≡ one.written.members.trades =
+        ap (λ (p : PlacedSet). p.members) one.is in
+        let outer_members : outer.members.items ≡ two.written.members.trades =
+        ap (λ (p : PlacedSet). p.members) two.is in
         let lies = within one.place one.written two.written
         (written_at one.place one.firm one.at one.written one.firm_is one.written_is).members
         (written_at one.place one.firm two.at two.written one.firm_is other_is).members
@@ -237,7 +248,8 @@ module _ (document : UnitDocument) (is : IsUnitDocument document) where
         count_placed 0 document.firms,
         is.few_sets,
       );
-      few_units = subst (λ (l : List UnitTrade). sum_by (λ trade. trade.units) l ≤ most_market_units) (sym made.trades) is.head.few_units;
+      few_units = subst (λ (l : List UnitTrade). sum_by (λ trade. trade.units) l ≤ most_market_units)
+          (sym made.trades) is.head.few_units;
       between = λ t trade at. subst (λ (n : ℕ). IsBetween n trade) (sym made.firms)
           (trades_between t trade (subst (λ (l : List UnitTrade). slice_get l t ≡ Some trade) made.trades at));
       as_many = made.as_many ∙ ap length (sym made.trades);
@@ -254,7 +266,8 @@ module _ (document : UnitDocument) (is : IsUnitDocument document) where
         ap (λ (l : List UnitTrade). both (Some (amount_sum l market.amounts.items f counts))
         (set_sum l f counts market.sets.items)) made.trades
         ∙ ap (λ (z : ℤ). both (Some z) (set_sum document.head.trades f counts market.sets.items))
-        (amounts_are document.head.trades document.firms give market.amounts.items counts f firm made.by_trade apart_at at)
+        (amounts_are document.head.trades document.firms give market.amounts.items counts f firm made.by_trade apart_at
+        at)
         ∙ ap (both (Some (written_amounts counts firm.amounts.entries)))
         (sets_sum document.head.trades f counts within is.head.few_units document.firms firm market.sets.items at
         (is.each f firm at).sets made.sets)

@@ -262,14 +262,22 @@ falling_same xs ys same falling i k a b less first second =
     each_at : (j : ℕ) (s : Step) → slice_get xs j ≡ Some s
         → (other : Step) × (slice_get ys j ≡ Some other) × (other.each ≡ s.each)
     each_at j s is =
-        let inside : j < length ys = omega (arith, slice_get_within xs j s is, length-map xs (λ (t : Step). t.each),
-        length-map ys (λ (t : Step). t.each), ap length same) in
+        let inside : j < length ys = omega (
+          arith,
+          slice_get_within xs j s is,
+          length-map xs (λ (t : Step). t.each),
+          length-map ys (λ (t : Step). t.each),
+          ap length same,
+        ) in
         let other = get_or ys j s in
-        let there : slice_get ys j ≡ Some other = slice_get-get_or ys j s inside in
-        (other, there, same_Some other.each s.each (
-        sym (slice_get-map (λ (t : Step). t.each) ys j ∙ ap (option_map (λ (t : Step). t.each)) there)
-        ∙ ap (λ (zs : List ℤ). slice_get zs j) (sym same)
-        ∙ slice_get-map (λ (t : Step). t.each) xs j ∙ ap (option_map (λ (t : Step). t.each)) is))
+        let there : slice_get ys j ≡ Some other = slice_get-get_or ys j s inside in (
+          other,
+          there,
+          same_Some other.each s.each (
+              sym (slice_get-map (λ (t : Step). t.each) ys j ∙ ap (option_map (λ (t : Step). t.each)) there)
+              ∙ ap (λ (zs : List ℤ). slice_get zs j) (sym same)
+              ∙ slice_get-map (λ (t : Step). t.each) xs j ∙ ap (option_map (λ (t : Step). t.each)) is),
+        )
 
 pub falling-first : (numbers : Option SetNumbers) (bought sold : List Step) (most : ℕ)
     → AreFalling (net_steps numbers bought sold)
@@ -284,7 +292,8 @@ falling-first None bought sold most falling =
 
 pub around-first : (numbers : Option SetNumbers) (bought sold : List Step) (most : ℕ)
     → net_back numbers sold ≤ room (net_steps numbers bought sold)
-    → net_back numbers (first_units most sold) ≤ room (net_steps numbers (first_units most bought) (first_units most sold))
+    → net_back numbers (first_units most sold) ≤ room (net_steps numbers (first_units most bought)
+    (first_units most sold))
 around-first (Some set) bought sold most around = around
 around-first None bought sold most around =
     omega (arith, room-joined (first_units most bought) (first_units most sold))
@@ -294,8 +303,12 @@ pub room_few : (numbers : Option SetNumbers) (bought sold : List Step) → IfSom
     → room (placed_steps numbers bought sold) ≤ most_set_units
 room_few (Some set) bought sold around = omega (arith, room-numbers set.numbers, around.are.few)
 room_few None bought sold around =
-    omega (arith, room-joined (first_units most_market_units bought) (first_units most_market_units sold),
-    room-first most_market_units bought, room-first most_market_units sold)
+    omega (
+      arith,
+      room-joined (first_units most_market_units bought) (first_units most_market_units sold),
+      room-first most_market_units bought,
+      room-first most_market_units sold,
+    )
 
 abbrev AreSmallSteps : List Step → Type 0
 AreSmallSteps steps = All (λ step. IsAtMost step.each most_number) steps
@@ -307,7 +320,8 @@ small-first most (step ∷ steps) all =
     (first_units (most - step.units) steps) (All-head (λ (s : Step). IsAtMost s.each most_number) step steps all)
     (small-first (most - step.units) steps (All-tail (λ (s : Step). IsAtMost s.each most_number) step steps all))
 
-pub small_steps : (numbers : Option SetNumbers) (bought sold : List Step) → IfSome numbers AreAroundNone → AreSteps bought
+pub small_steps : (numbers : Option SetNumbers) (bought sold : List Step) → IfSome numbers AreAroundNone
+    → AreSteps bought
     → AreSteps sold → All (λ step. IsAtMost step.each most_unit_amount) (placed_steps numbers bought sold)
 small_steps (Some set) bought sold around first second = small-numbers set.numbers around.are.small
 small_steps None bought sold around first second =

@@ -78,7 +78,8 @@ total_small (trade ∷ trades) g small =
 bought_small : (f units most : ℕ) (trade : UnitTrade) → units ≤ most → IsAtMost (bought_by f trade (pos units)) most
 bought_small f units most trade few = by (f == trade.buyer) (f == trade.seller)
   where
-    by : (buys sells : Bool) → IsAtMost ((if buys then pos units else pos 0) -ℤ (if sells then pos units else pos 0)) most
+    by : (buys sells : Bool) → IsAtMost ((if buys then pos units else pos 0) -ℤ
+        (if sells then pos units else pos 0)) most
     by true true = record { low = omega (arith, ints); high = omega (arith, ints) }
     by true false = record { low = omega (arith, ints); high = omega (arith, ints, few) }
     by false true = record { low = omega (arith, ints, few); high = omega (arith, ints) }
@@ -127,7 +128,8 @@ module _ (trades : List UnitTrade) (f : ℕ) (counts : ℕ → ℕ) (within : Ar
           (net_count trades other counts +ℤ pos other.back) else Some (pos 0)
 
       by : (b : Bool) → (f == set.firm) ≡ b → set_sum trades f counts sets ≡ sum_all add sets
-          → (if b then both (set_number trades set counts) (set_sum trades f counts sets) else set_sum trades f counts sets)
+          → (if b then both (set_number trades set counts) (set_sum trades f counts sets) else set_sum trades f counts
+          sets)
           ≡ both (if b then level_number set.steps.items set.back set.constant
           (net_count trades set counts +ℤ pos set.back) else Some (pos 0)) (sum_all add sets)
       by true is rest =
@@ -183,7 +185,8 @@ module _ (trades : List UnitTrade) (f : ℕ) (counts : ℕ → ℕ) (within : Ar
       sum_all-append placed_add (map (placed k) firm.sets) (all_placed (suc k) firms)
       ∙ ap (λ (z : Option ℤ). both z (sum_all placed_add (all_placed (suc k) firms)))
       (sum_all-map placed_add (placed k) firm.sets
-      ∙ sum_all-none (λ (s : WrittenSet). placed_add (placed k s)) firm.sets (other_add k (λ e. omega (arith, e, later))))
+      ∙ sum_all-none (λ (s : WrittenSet). placed_add (placed k s)) firm.sets (other_add k (λ e. omega
+      (arith, e, later))))
       ∙ none-both (sum_all placed_add (all_placed (suc k) firms)) ∙ later_sum (suc k) firms (omega (arith, later))
 
   placed_sum : (k j : ℕ) (firms : List WrittenFirm) (firm : WrittenFirm) → slice_get firms j ≡ Some firm → f ≡ k + j
@@ -256,7 +259,8 @@ all_of_firms (firm ∷ firms) first =
 all_from_map : {A B : Type 0} (P : B → Type 0) (f : A → B) (xs : List A) → All P (map f xs) → All (λ x. P (f x)) xs
 all_from_map P f [] all = All-nil (λ x. P (f x))
 all_from_map P f (x ∷ xs) all =
-    All-cons (λ y. P (f y)) x xs (All-head P (f x) (map f xs) all) (all_from_map P f xs (All-tail P (f x) (map f xs) all))
+    All-cons (λ y. P (f y)) x xs (All-head P (f x) (map f xs) all) (all_from_map P f xs (All-tail P (f x)
+    (map f xs) all))
 
 -- each set of a market is that of a firm
 pub sets_of_firms : (firms : List WrittenFirm) (sets : List CountSet)

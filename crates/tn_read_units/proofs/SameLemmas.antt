@@ -44,7 +44,8 @@ best_alike trades scale prices f one other counts value same best = record {
     utility others within =
         ap (option_map (λ (worth : ℤ). scale *ℤ worth +ℤ payments trades prices f others)) (same others within)
 
-equilibria_alike : (xs ys : List CountFirm) (trades : List UnitTrade) → AreAlike trades xs ys → (scale : ℤ) (counts : ℕ → ℕ)
+equilibria_alike : (xs ys : List CountFirm) (trades : List UnitTrade) → AreAlike trades xs ys → (scale : ℤ) (counts : ℕ
+    → ℕ)
     (prices : ℕ → ℤ) → IsEquilibriumByCounts xs trades scale counts prices
     → IsEquilibriumByCounts ys trades scale counts prices
 equilibria_alike xs ys trades alike scale counts prices holds f firm is =
@@ -68,7 +69,8 @@ surplus_alike trades (x ∷ xs) (y ∷ ys) alike counts within =
 same_firms : (document : UnitDocument) (market : UnitMarket) → HasItsWorths document market
     → AreAlike document.head.trades (firms_of market) (written_firms document)
 same_firms document market has = record {
-  count = length-map (range_with_len 0 market.firms) (firm_of market) ∙ length-range_with_len 0 market.firms ∙ has.count;
+  count = length-map (range_with_len 0 market.firms) (firm_of market) ∙ length-range_with_len 0 market.firms
+      ∙ has.count;
   worths = λ f one other first second counts within.
       ap (λ (firm : CountFirm). firm.worth counts) (firm_at market f one first).1
       ∙ has.worths f other second counts within;

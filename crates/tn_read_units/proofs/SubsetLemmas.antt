@@ -25,7 +25,8 @@ alike (suc n) x y within =
     here : (b : Bool) → has x n ≡ b → has y n ≡ b → (size_below n y ≤ size_below n x → IsWithinBelow n y x)
         → size_below n y ≤ size_below n x → IsWithinBelow (suc n) y x
     here b x_is y_is before few k below member = elim (cases_eq k n) [
-      | inl same ↦ subst (λ (i : ℕ). has x i ≡ true) (sym same) (x_is ∙ sym y_is ∙ subst (λ (i : ℕ). has y i ≡ true) same member)
+      | inl same ↦ subst (λ (i : ℕ). has x i ≡ true) (sym same) (x_is ∙ sym y_is
+          ∙ subst (λ (i : ℕ). has y i ≡ true) same member)
       | inr other ↦ before few k (omega (arith, below, other)) member
     ]
 

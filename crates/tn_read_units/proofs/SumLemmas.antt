@@ -37,10 +37,12 @@ unfolding whole
 whole_none zero up down some = absurd (omega (arith, some))
 whole_none (suc n) up down some = refl
 
-one_more : (z : Option ℤ) (n up down : ℕ) → both z (whole n up down) ≡ whole (misses z + n) (ups z + up) (downs z + down)
+one_more : (z : Option ℤ) (n up down : ℕ) → both z (whole n up down)
+    ≡ whole (misses z + n) (ups z + up) (downs z + down)
 unfolding misses ups downs whole
 one_more None n up down = sym (whole_none (1 + n) (0 + up) (0 + down) (omega arith))
-one_more (Some z) (suc n) up down = sym (whole_none (0 + suc n) (ups (Some z) + up) (downs (Some z) + down) (omega arith))
+one_more (Some z) (suc n) up down = sym (whole_none (0 + suc n) (ups (Some z) + up) (downs (Some z) + down)
+    (omega arith))
 one_more (Some (pos m)) zero up down =
     let sum : pos m +ℤ (pos up -ℤ pos down) ≡ pos (m + up) -ℤ pos (0 + down) = omega (arith, ints) in ap Some sum
 one_more (Some (negsuc m)) zero up down =
@@ -55,7 +57,8 @@ parts_are add (x ∷ xs) =
     let up = sum_by-cons (λ y. ups (add y)) x xs in
     let down = sum_by-cons (λ y. downs (add y)) x xs in
     rw (none, up, down) (ap (both (add x)) (parts_are add xs)
-    ∙ one_more (add x) (sum_by (λ y. misses (add y)) xs) (sum_by (λ y. ups (add y)) xs) (sum_by (λ y. downs (add y)) xs))
+    ∙ one_more (add x) (sum_by (λ y. misses (add y)) xs) (sum_by (λ y. ups (add y)) xs) (sum_by (λ y. downs
+    (add y)) xs))
 
 pub sum_all-permutation : {A : Type 0} (add : A → Option ℤ) (xs ys : List A) → IsPermutation xs ys
     → sum_all add ys ≡ sum_all add xs

@@ -137,7 +137,8 @@ more_tested earlier set sets beside rest = record { each = each; beside = before
     nested (suc i) (suc k) one other less first second =
         rest.nested i k one other (omega (arith, less)) first second
 
-pub sets_lead : (f : ℕ) (earlier sets : List WrittenSet) → Leads (λ _. AreTested earlier sets) (check_sets f earlier sets)
+pub sets_lead : (f : ℕ) (earlier sets : List WrittenSet) → Leads (λ _. AreTested earlier sets)
+    (check_sets f earlier sets)
 sets_lead f earlier [] = leads_ok (λ _. AreTested earlier []) tt (record {
   each = λ k set is. absurd (none-some set is);
   beside = λ k set is. absurd (none-some set is);
@@ -176,7 +177,8 @@ not_crossing one other one_named other_named none t first second =
     let x = one.members.named in
     let y = other.members.named in
     elim (one_of (meet x y == 0) (minus y x == 0) (minus x y == 0) none) [
-      | inl disjoint ↦ absurd (apart x y t (eqb-true (meet x y) 0 disjoint) (one_named t ∙ first) (other_named t ∙ second))
+      | inl disjoint ↦ absurd (apart x y t (eqb-true (meet x y) 0 disjoint) (one_named t ∙ first) (other_named t
+          ∙ second))
       | inr rest ↦ elim rest [
         | inl contains ↦ inr (within_from other one other_named one_named (eqb-true (minus y x) 0 contains))
         | inr lies ↦ inl (within_from one other one_named other_named (eqb-true (minus x y) 0 lies))

@@ -98,8 +98,8 @@ AreNested one other = (t : ℕ) → has_member one.members t ≡ true → has_me
 pub record IsWrittenFirm (trades : List UnitTrade) (f : ℕ) (firm : WrittenFirm) : Type 0 where
   pub amounts : AreOwnAmounts trades f firm.amounts
   pub sets : All (IsWrittenSet trades f) firm.sets
-  pub laminar : (i k : ℕ) (one other : WrittenSet) → slice_get firm.sets i ≡ Some one → slice_get firm.sets k ≡ Some other
-      → AreNested one other
+  pub laminar : (i k : ℕ) (one other : WrittenSet) → slice_get firm.sets i ≡ Some one
+      → slice_get firm.sets k ≡ Some other → AreNested one other
 
 -- laminar firms, one for each name, over trades within the limits, with few sets in all
 pub record IsUnitDocument (document : UnitDocument) : Type 0 where

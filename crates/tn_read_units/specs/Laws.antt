@@ -11,7 +11,8 @@ use Rattle.tn_read_units.specs.Worths.{written_firms}
 
 -- every document that is read is one of laminar firms
 abbrev pub UnitDocumentsAreNetworks : Type 0
-UnitDocumentsAreNetworks = (top : Data) (document : UnitDocument) → document_of top ≡ Ok document → IsUnitDocument document
+UnitDocumentsAreNetworks = (top : Data) (document : UnitDocument) → document_of top ≡ Ok document
+    → IsUnitDocument document
 
 -- the firms of a market have the worths that a document says of counts, and there are as many
 pub record HasItsWorths (document : UnitDocument) (market : UnitMarket) : Type 0 where

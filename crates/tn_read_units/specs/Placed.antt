@@ -68,7 +68,8 @@ first_amount (amount ∷ amounts) t = if amount.trade == t then amount.number el
 
 -- the amounts of the firm with a number, none where there is no such firm
 abbrev pub entries_of : List WrittenFirm → ℕ → List Amount
-entries_of firms f = (get_or firms f (record { amounts = record { named = 0; entries = [] }; sets = [] })).amounts.entries
+entries_of firms f =
+    (get_or firms f (record { amounts = record { named = 0; entries = [] }; sets = [] })).amounts.entries
 
 -- the amounts of trade t to its two firms
 abbrev pub amounts_for : List WrittenFirm → ℕ → UnitTrade → UnitAmounts

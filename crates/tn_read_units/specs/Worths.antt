@@ -34,7 +34,8 @@ written_number set net = number_of set.numbers set.bought set.sold net
 -- the units of a set's trades that a firm buys, less those that it sells
 abbrev pub written_net : List UnitTrade → ℕ → WrittenSet → (ℕ → ℕ) → ℤ
 written_net trades f set counts =
-    total (λ t. if list_any (λ k. k == t) set.members.trades then bought_by f (trade_at trades t) (pos (counts t)) else pos 0) (length trades)
+    total (λ t. if list_any (λ k. k == t) set.members.trades
+    then bought_by f (trade_at trades t) (pos (counts t)) else pos 0) (length trades)
 
 -- what all sets of a firm add by counts
 abbrev pub written_sum : List UnitTrade → ℕ → (ℕ → ℕ) → List WrittenSet → Option ℤ

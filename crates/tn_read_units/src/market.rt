@@ -28,7 +28,7 @@ use tn_links::Step;
 const MOST_UNITS: u32 = 1 << 20;
 
 /// The market of a document. Of counts of the trades' units its firms have the worths that the document says, so that
-/// its equilibria are those of the document; steps of units beyond those of all trades are left out.
+/// its equilibria are those of the document. Steps of units beyond those of all trades are left out.
 pub fn market_of(alloc: Global, document: &UnitDocument) -> Result<UnitMarket, OutOfMemory>
     ensures market { IfOk result IsUnitMarket }
     ensures firms { IfOk result (λ market. market.firms ≡ length document.now.head.names.firms) }

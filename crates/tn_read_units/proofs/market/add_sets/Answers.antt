@@ -1,5 +1,5 @@
 -- What shows the clauses of `add_sets` of `src/market.rt`.
-use Rattle.std.proofs.Common.{◌∙◌, ◌∷◌, [], ap}
+use Rattle.std.proofs.Common.{◌∙◌, ap}
 use Rattle.std.specs.Prelude.{map}
 use Rattle.std.proofs.lemmas.List.{map_push}
 use Rattle.tn_read_units.specs.Placed.{as_placed, placed}

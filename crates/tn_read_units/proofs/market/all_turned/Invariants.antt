@@ -1,5 +1,5 @@
 -- What the loops of `all_turned` of `src/market.rt` keep.
-use Rattle.std.proofs.Common.{◌≡◌, ◌++◌, ◌≤◌, drop}
+use Rattle.std.proofs.Common.{◌≡◌, ◌++◌, drop}
 use Rattle.std.specs.Prelude.{map}
 use Rattle.tn_counts.specs.Widths.{most_market_units}
 use Rattle.tn_read_units.specs.Documents.{turned}

@@ -1,7 +1,7 @@
 -- What shows the clauses of `market_of` of `src/market.rt`.
 use Rattle.std.proofs.Common.{length, refl}
 use Rattle.tn_counts.specs.declared.market.UnitMarket.{UnitMarket}
-use Rattle.tn_read_units.proofs.MarketLemmas.{IsMadeOf, is_market, made_from, worths_are}
+use Rattle.tn_read_units.proofs.MarketLemmas.{is_market, made_from, worths_are}
 use Rattle.tn_read_units.proofs.market.market_of.Goals as goal
 
 pub returns-clause-market : goal.returns-clause-market

@@ -1,6 +1,5 @@
 -- What shows the clauses of `units_of` of `src/market.rt`.
 use Rattle.std.proofs.Common.{arith, pos}
-use Rattle.tn_links.specs.declared.link.Step.{Step}
 use Rattle.tn_read_units.proofs.LoopLemmas.{few_units, room_next}
 use Rattle.tn_read_units.proofs.market.units_of.Goals as goal
 
