@@ -1,11 +1,10 @@
 -- What amounts by trade add is what the amounts of each firm add.
-use Rattle.std.proofs.Common.{◌≡◌, ◌≢◌, ℕ, ◌+◌, ◌<◌, ◌≤◌, refl, sym, ap, subst, ◌∙◌, arith, inl, inr, List, [], ◌∷◌, length, get_or, ℤ, pos, ◌+ℤ◌, Bool, true, false, ◌==◌, if◌then◌else◌, Option, Some, None}
+use Rattle.std.proofs.Common.{◌≡◌, ◌≢◌, ℕ, ◌<◌, refl, sym, ap, subst, ◌∙◌, arith, inl, inr, List, [], ◌∷◌, length, get_or, ℤ, pos, ◌+ℤ◌, Bool, true, false, ◌==◌, if◌then◌else◌, Option, Some, None}
 use Rattle.std.specs.Prelude.{◌*ℤ◌, ◌||◌, slice_get, option_and_then, All}
-use Rattle.std.proofs.lemmas.Bool.{cases_eq, eq-eqb, eqb-true, ne_eqb}
+use Rattle.std.proofs.lemmas.Bool.{cases_eq, eq-eqb, ne_eqb}
 use Rattle.std.proofs.lemmas.Int.{ints}
-use Rattle.std.proofs.lemmas.List.Elements.{All-head, All-nil, All-tail, All-weaker}
-use Rattle.std.proofs.lemmas.List.Folds.{list_any_none}
-use Rattle.std.proofs.lemmas.Option.{get_or_from_slice_get, none-some, same_Some, slice_get-get_or, slice_get_within}
+use Rattle.std.proofs.lemmas.List.Elements.{All-head, All-tail, All-weaker}
+use Rattle.std.proofs.lemmas.Option.{get_or_from_slice_get, none-some, slice_get-get_or, slice_get_within}
 use Rattle.std.proofs.Math.IntN.{*ℤ-zero, *ℤ_comm}
 use Rattle.tn_base.specs.Arcs.{IsAtMost}
 use Rattle.tn_base.specs.declared.side.Side.{Side}
@@ -13,11 +12,10 @@ use Rattle.tn_links.specs.Totals.{total}
 use Rattle.tn_links.proofs.TotalLemmas.{total-plus, total-same, total-zero, total_one}
 use Rattle.tn_counts.specs.Counts.{trade_at}
 use Rattle.tn_counts.specs.Laminar.{amount_sum, amount_to, amounts_at}
-use Rattle.tn_counts.specs.Markets.{IsBetween}
 use Rattle.tn_counts.specs.declared.trade.UnitAmounts.{UnitAmounts}
 use Rattle.tn_counts.specs.declared.trade.UnitTrade.{UnitTrade}
 use Rattle.tn_read_units.specs.Documents.{AreOnce, AreOwnAmounts, IsOwnAmount, has_amount}
-use Rattle.tn_read_units.specs.Firms.{OwnAmounts, WrittenFirm}
+use Rattle.tn_read_units.specs.Firms.{WrittenFirm}
 use Rattle.tn_read_units.specs.Limits.{most_number}
 use Rattle.tn_read_units.specs.Own.{side_at}
 use Rattle.tn_read_units.specs.Placed.{amounts_for, entries_of, first_amount}

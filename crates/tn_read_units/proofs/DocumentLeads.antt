@@ -1,5 +1,5 @@
 -- Every document that is read is one of laminar firms.
-use Rattle.std.proofs.Common.{◌≡◌, ℕ, zero, suc, ◌+◌, ◌<◌, ◌≤◌, refl, sym, ap, subst, ◌∙◌, arith, inl, inr, List, [], ◌∷◌, ◌++◌, length, get_or, length-append, Bool, true, false, ◌==◌, ℤ, pos, ◌≤ℤ◌, Option, Some, None, Result, Ok}
+use Rattle.std.proofs.Common.{◌≡◌, ℕ, zero, suc, ◌+◌, ◌<◌, ◌≤◌, refl, sym, ap, subst, ◌∙◌, arith, inl, inr, List, [], ◌∷◌, ◌++◌, length, get_or, length-append, Bool, true, false, ◌==◌, ℤ, pos, ◌≤ℤ◌, Option, Some, None}
 use Rattle.std.specs.Prelude.{◌&&◌, ◌||◌, ◌<ℤ◌, codes, not, nat_le, int_lt, unsigned_abs, slice_get, option_and_then, All, IfSome}
 use Rattle.std.specs.List.{list_any, sum_by}
 use Rattle.std.proofs.lemmas.Bool.{and_parts, cases_eq, eq-eqb, eqb-false, ne_eqb}
@@ -22,9 +22,7 @@ use Rattle.tn_said.specs.declared.place.PlaceStep.{PlaceStep}
 use Rattle.tn_said.specs.declared.place.PlaceStep.TheVariants.{Index, Key}
 use Rattle.tn_said.specs.declared.place.Word.{Word}
 use Rattle.tn_said.specs.declared.place.Word.TheVariants.{Bought, From, Sets, Sold, Trades, Values}
-use Rattle.tn_said.specs.declared.said.Fault.{Fault}
 use Rattle.tn_counts.specs.Widths.{most_count_sets}
-use Rattle.tn_counts.specs.declared.trade.UnitTrade.{UnitTrade}
 use Rattle.tn_read_shapes.specs.Reading.{each, holds, wanted}
 use Rattle.tn_read_shapes.specs.Shapes.{few_at, list_at, number_at, object_of, optional_list_at, two_at, whole_at}
 use Rattle.tn_read_shapes.specs.declared.members.FirmKind.TheVariants.{Laminar}
@@ -34,7 +32,7 @@ use Rattle.tn_read_shapes.proofs.ShapeLeads.{few_lead, number_leads}
 use Rattle.tn_read_references.specs.References.{firm_place, trade_at}
 use Rattle.tn_read_units.specs.Checks.{check_sets}
 use Rattle.tn_read_units.specs.Counts.{count_at}
-use Rattle.tn_read_units.specs.Documents.{AreMembers, AreOnce, AreOwnAmounts, AreAroundNone, IsOwn, IsOwnAmount, IsWrittenFirm, IsWrittenSet, has_amount, has_member}
+use Rattle.tn_read_units.specs.Documents.{AreMembers, AreOnce, AreOwnAmounts, AreAroundNone, IsOwn, IsOwnAmount, IsWrittenFirm, IsWrittenSet, has_amount}
 use Rattle.tn_read_units.specs.Firms.{OwnAmounts, WrittenFirm, WrittenFirms, amounts_at, amounts_place, firm_of, firms_of, kind_at, one_amount, one_firm, sets_at}
 use Rattle.tn_read_units.specs.Limits.{most_number, most_steps, most_units_at_once, most_values}
 use Rattle.tn_read_units.specs.Own.{Members, members_at, one_member, own_trade, side_at}

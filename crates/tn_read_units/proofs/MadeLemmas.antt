@@ -1,5 +1,5 @@
 -- Loops that make the amounts and the sets of a market, as they go through a document.
-use Rattle.std.proofs.Common.{◌≡◌, ℕ, suc, ◌+◌, ◌-◌, ◌<◌, ◌≤◌, refl, sym, ap, ◌∙◌, add-one, append_assoc, arith, inl, inr, List, [], ◌∷◌, ◌++◌, length, get_or, drop, take, pos}
+use Rattle.std.proofs.Common.{◌≡◌, ℕ, ◌+◌, ◌-◌, ◌<◌, sym, ap, ◌∙◌, add-one, append_assoc, arith, inl, inr, List, [], ◌∷◌, ◌++◌, length, get_or, drop, take, pos}
 use Rattle.std.specs.Prelude.{map}
 use Rattle.std.proofs.lemmas.Bool.{cases_lt}
 use Rattle.std.proofs.lemmas.List.{at_drop_more, get_or-append_right, get_or_append_left, map_more}

@@ -1,9 +1,8 @@
 -- The market of a document is one that is served, and its firms have the worths that the document says.
-use Rattle.std.proofs.Common.{◌≡◌, ◌≢◌, ℕ, zero, suc, ◌+◌, ◌<◌, ◌≤◌, refl, sym, ap, subst, ◌∙◌, arith, inl, inr, List, [], ◌∷◌, ◌++◌, length, get_or, length-append, ℤ, pos, ◌+ℤ◌, Bool, true, false, ◌==◌, Option, Some, None}
-use Rattle.std.specs.Prelude.{map, slice_get, All}
+use Rattle.std.proofs.Common.{◌≡◌, ◌≢◌, ℕ, zero, suc, ◌+◌, ◌<◌, ◌≤◌, refl, sym, ap, subst, ◌∙◌, arith, inl, inr, List, [], ◌∷◌, length, get_or, length-append, ℤ, pos, true, ◌==◌, Some}
+use Rattle.std.specs.Prelude.{map, slice_get}
 use Rattle.std.specs.List.{list_any, sum_by}
 use Rattle.std.specs.List.Sorted.{IsNonDecreasingBy, IsPermutation}
-use Rattle.std.proofs.lemmas.Bool.{eqb-true}
 use Rattle.std.proofs.lemmas.Int.{ints}
 use Rattle.std.proofs.lemmas.List.{length-map}
 use Rattle.std.proofs.lemmas.List.Sorted.{length_permutation}
@@ -11,23 +10,19 @@ use Rattle.std.proofs.lemmas.List.Sums.{sum_by-cons}
 use Rattle.std.proofs.lemmas.Option.{get_or_from_slice_get, none-some, same_Some, slice_get-get_or, slice_get_within}
 use Rattle.tn_base.specs.Arcs.{IsAtMost}
 use Rattle.tn_base.specs.Options.{both}
-use Rattle.tn_base.specs.Sets.{has, size}
 use Rattle.tn_links.specs.Links.{AreFalling, room}
 use Rattle.tn_links.specs.declared.link.Step.{Step}
 use Rattle.tn_counts.specs.Counts.{AreCounts, CountFirm, trade_at}
 use Rattle.tn_counts.specs.Laminar.{amount_sum, firm_of, set_sum}
-use Rattle.tn_counts.specs.Markets.{AreBetween, AreCountSets, AreLaminar, AreSmallAmounts, HaveSmallAmounts, HaveSmallSteps, IsBetween, IsCountSet, IsUnitMarket}
+use Rattle.tn_counts.specs.Markets.{AreCountSets, AreLaminar, AreSmallAmounts, HaveSmallAmounts, HaveSmallSteps, IsBetween, IsUnitMarket}
 use Rattle.tn_counts.specs.Widths.{most_market_units, most_set_units, most_unit_amount, most_unit_trades}
 use Rattle.tn_counts.specs.declared.market.UnitMarket.{UnitMarket}
 use Rattle.tn_counts.specs.declared.set.CountSet.{CountSet}
-use Rattle.tn_counts.specs.declared.trade.UnitAmounts.{UnitAmounts}
 use Rattle.tn_counts.specs.declared.trade.UnitTrade.{UnitTrade}
-use Rattle.tn_read_units.specs.Documents.{AreAroundNone, AreMembers, AreNested, IsUnitDocument, IsWithin, IsWrittenFirm, IsWrittenSet, has_member}
+use Rattle.tn_read_units.specs.Documents.{AreMembers, AreNested, IsUnitDocument, IsWithin, IsWrittenSet, has_member}
 use Rattle.tn_read_units.specs.Firms.{UnitDocument, WrittenFirm}
-use Rattle.tn_read_units.specs.Limits.{most_number}
-use Rattle.tn_read_units.specs.Placed.{PlacedSet, all_placed, amounts_for, as_placed, entries_of, placed, placed_steps}
-use Rattle.tn_read_units.specs.Sets.{SetNumbers, WrittenSet}
-use Rattle.tn_read_units.specs.Steps.{AreSteps, IsStep}
+use Rattle.tn_read_units.specs.Placed.{PlacedSet, all_placed, amounts_for, as_placed, placed, placed_steps}
+use Rattle.tn_read_units.specs.Sets.{WrittenSet}
 use Rattle.tn_read_units.specs.Trades.{IsUnitTrade}
 use Rattle.tn_read_units.specs.Worths.{firms_from, written_amounts, written_firms, written_worth}
 use Rattle.tn_read_units.proofs.AmountLemmas.{AreByTrade, amounts_are, amounts_small}

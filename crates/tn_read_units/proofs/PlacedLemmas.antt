@@ -1,6 +1,6 @@
 -- What the sets of a market add is what the sets of each firm add as they are written.
-use Rattle.std.proofs.Common.{◌≡◌, ◌≢◌, ℕ, zero, suc, ◌+◌, ◌<◌, ◌≤◌, refl, sym, ap, subst, ◌∙◌, arith, inl, inr, List, [], ◌∷◌, ◌++◌, length, get_or, ℤ, pos, ◌+ℤ◌, ◌-ℤ◌, ◌≤ℤ◌, Bool, true, false, ◌==◌, if◌then◌else◌, Option, Some, None}
-use Rattle.std.specs.Prelude.{negsuc, map, slice_get, unsigned_abs, All, IfSome}
+use Rattle.std.proofs.Common.{◌≡◌, ◌≢◌, ℕ, zero, suc, ◌+◌, ◌<◌, ◌≤◌, refl, sym, ap, ◌∙◌, arith, List, [], ◌∷◌, ◌++◌, length, get_or, ℤ, pos, ◌+ℤ◌, ◌-ℤ◌, Bool, true, false, ◌==◌, if◌then◌else◌, Option, Some, None}
+use Rattle.std.specs.Prelude.{negsuc, map, slice_get, All, IfSome}
 use Rattle.std.specs.List.{list_any, sum_by}
 use Rattle.std.specs.List.Sorted.{IsPermutation}
 use Rattle.std.proofs.lemmas.Bool.{eq-eqb, ne_eqb}
@@ -18,7 +18,6 @@ use Rattle.tn_counts.specs.Laminar.{added_at, bought_by, net_count, set_number, 
 use Rattle.tn_counts.specs.Widths.{most_market_units}
 use Rattle.tn_counts.specs.declared.set.CountSet.{CountSet}
 use Rattle.tn_counts.specs.declared.trade.UnitTrade.{UnitTrade}
-use Rattle.tn_links.specs.declared.link.Step.{Step}
 use Rattle.tn_read_units.specs.Documents.{AreAroundNone, IsWrittenSet}
 use Rattle.tn_read_units.specs.Firms.{WrittenFirm}
 use Rattle.tn_read_units.specs.Placed.{PlacedSet, all_placed, as_placed, first_units, number_at_none, placed, placed_back, placed_steps}

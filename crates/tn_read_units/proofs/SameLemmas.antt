@@ -1,10 +1,10 @@
 -- Firms with the same worths have the same equilibria and surpluses.
-use Rattle.std.proofs.Common.{◌≡◌, ℕ, zero, suc, ◌<◌, refl, sym, ap, ◌∙◌, arith, List, [], ◌∷◌, length, ℤ, ◌+ℤ◌, Option, Some, None}
-use Rattle.std.specs.Prelude.{◌*ℤ◌, map, slice_get, option_map}
+use Rattle.std.proofs.Common.{◌≡◌, ℕ, suc, ◌<◌, refl, sym, ap, ◌∙◌, arith, List, [], ◌∷◌, length, ℤ, ◌+ℤ◌, Option, Some}
+use Rattle.std.specs.Prelude.{◌*ℤ◌, slice_get, option_map}
 use Rattle.std.specs.List.{range_with_len}
 use Rattle.std.proofs.lemmas.List.{length-map}
 use Rattle.std.proofs.lemmas.List.FromFn.{length-range_with_len}
-use Rattle.std.proofs.lemmas.Option.{none-some, slice_get_within}
+use Rattle.std.proofs.lemmas.Option.{slice_get_within}
 use Rattle.tn_base.specs.Options.{both}
 use Rattle.tn_counts.specs.Counts.{AreCounts, CountFirm, IsBestCount, IsEquilibriumByCounts, count_surplus, count_utility, payments}
 use Rattle.tn_counts.specs.Laminar.{firm_of, firms_of}
@@ -13,7 +13,7 @@ use Rattle.tn_counts.specs.declared.trade.UnitTrade.{UnitTrade}
 use Rattle.tn_counts.proofs.PlaceLemmas.{item_at}
 use Rattle.tn_counts.proofs.SurplusLemmas.{firm_at}
 use Rattle.tn_read_units.specs.Firms.{UnitDocument}
-use Rattle.tn_read_units.specs.Laws.{AreTheSame, HasItsWorths, MarketsSayTheirDocuments}
+use Rattle.tn_read_units.specs.Laws.{HasItsWorths, MarketsSayTheirDocuments}
 use Rattle.tn_read_units.specs.Worths.{written_firms}
 
 -- as many firms, and each has the same worths as its counterpart

@@ -1,5 +1,5 @@
 -- What the tests of the sets of a firm say of them.
-use Rattle.std.proofs.Common.{◌≡◌, ℕ, zero, suc, ◌+◌, ◌<◌, ◌≤◌, ◌⊎◌, refl, sym, ap, subst, ◌∙◌, arith, inl, inr, List, [], ◌∷◌, ◌++◌, length, ℤ, pos, neg_ℤ, ◌≤ℤ◌, Bool, true, false, ◌==◌, if◌then◌else◌, Option, Some, None, Result, Ok}
+use Rattle.std.proofs.Common.{◌≡◌, ℕ, zero, suc, ◌<◌, ◌≤◌, ◌⊎◌, refl, sym, ap, subst, ◌∙◌, arith, inl, inr, List, [], ◌∷◌, ◌++◌, length, pos, neg_ℤ, ◌≤ℤ◌, Bool, true, false, ◌==◌, Option, Some, None}
 use Rattle.std.specs.Prelude.{◌&&◌, ◌||◌, ◌<ℤ◌, not, slice_get, unsigned_abs, IfSome}
 use Rattle.std.specs.List.{list_any}
 use Rattle.std.proofs.lemmas.Bool.{cases_eq, cases_lt, eqb-true}
@@ -10,14 +10,13 @@ use Rattle.tn_base.specs.Sets.{has, meet, minus}
 use Rattle.tn_base.proofs.SetLemmas.{has-meet, has-zero, has_from_minus-zero}
 use Rattle.tn_links.specs.Links.{AreFalling, room}
 use Rattle.tn_links.specs.declared.link.Step.{Step}
-use Rattle.tn_said.specs.declared.fault.FaultKind.TheVariants.{Limit, NoEmpty, NotConcave, NotLaminar}
-use Rattle.tn_said.specs.declared.said.Fault.{Fault}
+use Rattle.tn_said.specs.declared.fault.FaultKind.TheVariants.{NoEmpty, NotConcave, NotLaminar}
 use Rattle.tn_said.specs.declared.place.Word.{Word}
 use Rattle.tn_said.specs.declared.place.Word.TheVariants.{Bought, Sold}
-use Rattle.tn_read_shapes.proofs.LeadLemmas.{Leads, is_true_not, leads_after, leads_as, leads_bind, leads_holds, leads_ok}
+use Rattle.tn_read_shapes.proofs.LeadLemmas.{Leads, is_true_not, leads_as, leads_bind, leads_holds, leads_ok}
 use Rattle.tn_read_units.specs.Checks.{check_form, check_numbers, check_set, check_sets, check_steps, crosses, first_rise, has_none, rises_at_none, steps_after, unless_bent, unless_rising}
-use Rattle.tn_read_units.specs.Documents.{AreNested, IsWithin, back_of, has_member, net_back, net_steps, steps_of}
-use Rattle.tn_read_units.specs.Sets.{AreNumbers, SetNumbers, WrittenSet}
+use Rattle.tn_read_units.specs.Documents.{AreNested, IsWithin, has_member, net_back, net_steps}
+use Rattle.tn_read_units.specs.Sets.{SetNumbers, WrittenSet}
 use Rattle.tn_read_units.specs.declared.steps.SetAt.{SetAt}
 use Rattle.tn_read_units.proofs.FallLemmas.{fall-joined, fall_tested, falling_from}
 use Rattle.tn_read_units.proofs.NumberLemmas.{room-joined, room-numbers}
