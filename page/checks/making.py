@@ -1,8 +1,12 @@
 """What is tried of a market that is made in a minute, by pointer and keys: a chain with a middleman, a grid, tables that are pasted and
 dropped, and what is doubted."""
+import io
 import json
 import time
+import zipfile
+from base64 import b64encode
 from pathlib import Path
+from xml.sax.saxutils import escape
 
 import look
 from bench import Bench, asked, example
@@ -179,28 +183,56 @@ def tries_of_tables(page: Bench, program: str | None):
     page.click("#sheet-close")
 
 
-# Drops files on the page.
+# Drops files on the page; bytes come in base64.
 DROP = """
 const moved = new DataTransfer();
-for (const [name, text] of arguments[0]) moved.items.add(new File([text], name));
+for (const [name, letters] of arguments[0]) moved.items.add(new File([Uint8Array.from(atob(letters), (letter) => letter.charCodeAt(0))], name));
 document.getElementById("drop").dispatchEvent(new DragEvent("drop", {dataTransfer: moved, bubbles: true, cancelable: true}));
 return new Promise((done) => setTimeout(done, 300));"""
+
+
+def drop(page: Bench, *files: tuple[str, str | bytes]) -> None:
+    page.browser.run(DROP, [[name, b64encode(data.encode() if isinstance(data, str) else data).decode()] for name, data in files])
+
+
+def workbook(*sheets: list[list[str]]) -> bytes:
+    """A workbook with sheets of cells: numbers as numbers, and texts that are shared."""
+    texts, made = [], io.BytesIO()
+
+    def cell(text: str, place: str) -> str:
+        if text == "" or text.replace(".", "", 1).isdigit():
+            return f'<c r="{place}"><v>{text}</v></c>' if text else ""
+        texts.append(f"<si><t>{escape(text)}</t></si>")
+        return f'<c r="{place}" t="s"><v>{len(texts) - 1}</v></c>'
+
+    with zipfile.ZipFile(made, "w", zipfile.ZIP_DEFLATED) as parts:
+        for k, rows in enumerate(sheets, 1):
+            lines = "".join(f'<row r="{r}">' + "".join(cell(text, f"{chr(65 + c)}{r}") for c, text in enumerate(row)) + "</row>" for r, row in enumerate(rows, 1))
+            parts.writestr(f"xl/worksheets/sheet{k}.xml", f"<worksheet><sheetData>{lines}</sheetData></worksheet>")
+        parts.writestr("xl/sharedStrings.xml", f"<sst>{''.join(texts)}</sst>")
+    return made.getvalue()
 
 
 def tries_to_drop(page: Bench, program: str | None):
     page.open("used-cars.json", look.example("used-cars.json"))
     page.click("#tab-guess")
     case = TABLES["made"][0]
-    page.browser.run(DROP, [["firms.csv", case["firms"]], ["lanes.csv", case["lanes"]]])
+    drop(page, ("firms.csv", case["firms"]), ("lanes.csv", case["lanes"]))
     yield "tables that are dropped are a market", page.text() == case["document"] and page.value("document.getElementById('tab-build').getAttribute('aria-selected')") == "true"
-    page.browser.run(DROP, [["grid.csv", ",a,b\ncost,1,1\nX,5,4.5\n"]])
+    drop(page, ("grid.csv", ",a,b\ncost,1,1\nX,5,4.5\n"))
     yield "and so is a grid", '"note":{"unit":"0.1"}' in page.text() and page.says("name").startswith("grid.json")
     before = page.text()
-    page.browser.run(DROP, [["table.csv", "name;seller;buyer\na;S;3\n"]])
+    drop(page, ("table.csv", "name;seller;buyer\na;S;3\n"))
     yield "a table of something else is told at its cells", page.text() == before and page.says("sheet-faults") == "the grid, row 2, column B: S is no number"
+    drop(page, ("open.csv", 'name,at\n"a,1\nb,2\n'))
+    yield "a table with a quote that isn't closed is told as that", page.text() == before and page.says("notice").startswith("open.csv: this is no table of cells parted by ','")
+    drop(page, ("book.xlsx", workbook(*([row.split(",") for row in case[name].splitlines()] for name in ("firms", "lanes")))))
+    yield "the sheets of a workbook are a market", page.text() == case["document"]
+    drop(page, ("none.xlsx", b"PK\3\4 and no more"))
+    yield "and of one that can't be read that is told", page.text() == case["document"] and page.says("notice").startswith("none.xlsx is no workbook")
     page.click("#sheet-close")
-    page.click("#undo")
-    page.click("#undo")
+    for _ in range(3):
+        page.click("#undo")
     yield "which is taken back", "used-cars" in page.says("name")
 
 

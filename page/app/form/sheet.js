@@ -1,8 +1,11 @@
 // The tables of the form: cells that are typed, pasted or dropped, what is wrong at which, and the market that is made of them.
+import {each} from "../../read/cells.js";
 import {language, say} from "../../words/say.js";
 import {networkOf} from "../document/state.js";
 import {made, on, part, write} from "../shell/page.js";
-import {cellName, EMPTY_SHEET, gridSheet, grown, isBlock, outcomeOf, tablesOf, withBlock, withCell, withCells} from "./sheets.js";
+import {
+    blockIn, cellName, EMPTY_SHEET, gridSheet, grown, isBlock, outcomeOf, saysUnread, tablesOf, withBlock, withCell, withCells,
+} from "./sheets.js";
 
 /** How many rows of a table are shown, and more only up to the last in which something is wrong. */
 const MOST_ROWS = 100;
@@ -34,7 +37,7 @@ export function readySheet(of) {
     part("sheet-pasted").addEventListener("input", () => {
         const text = part("sheet-pasted").value;
         part("sheet-pasted").value = "";
-        takeTables(text);
+        takeTexts([[say("sheet.pasted_cells"), text]]);
     });
     part("sheet-tables").addEventListener("input", ({target}) => look(withCell(store.value.view.sheet, ...placeOf(target), target.value)));
     part("sheet-tables").addEventListener("keydown", move);
@@ -60,13 +63,26 @@ function pasted(event) {
     if (cell === null && isField !== null && target.id !== "sheet-pasted") return;
     event.preventDefault();
     const [table, row, column] = cell === null ? [null, 0, 0] : placeOf(cell);
-    if (row + column === 0) takeTables(text);
-    else look(withCells(sheet, table, row, column, text));
+    if (row + column === 0) takeTexts([[say("sheet.pasted_cells"), text]]);
+    else withCellsOf([[say("sheet.pasted_cells"), text]], ([block]) => look(withCells(sheet, table, row, column, block)));
 }
 
-/** Takes tables in text, and makes the market at once where nothing is wrong. */
-export function takeTables(...texts) {
-    const sheet = texts.reduce((all, text) => withBlock(all, text), store.value.view.sheet);
+/** Takes tables in texts, each with its name. */
+export function takeTexts(texts) {
+    withCellsOf(texts, takeTables);
+}
+
+/** Does something with the cells of texts; where one has none as they are wanted, that is told. */
+function withCellsOf(texts, act) {
+    const faults = [], blocks = each(texts, ([name, text]) => ({...blockIn(text), name}), faults);
+    part("notice").hidden = faults.length === 0;
+    if (faults.length === 0) act(blocks);
+    else part("notice").textContent = saysUnread({list: faults}, texts.map(([name]) => name).join(", "));
+}
+
+/** Takes tables, and makes the market at once where nothing is wrong. */
+export function takeTables(blocks) {
+    const sheet = blocks.reduce(withBlock, store.value.view.sheet);
     if (store.value.view.panel !== "build") store.act("went", "build");
     look(sheet);
     make(sheet);

@@ -29,12 +29,23 @@ export function isBlock(text) {
     return /\t|\n./.test(text.trimEnd());
 }
 
-/** A sheet with a text that was pasted or dropped: a grid, or one of the two tables beside the other; both may stand in one text, one below the other. */
-export function withBlock(sheet, text) {
-    const between = separatorOf(text), blocks = apart(rowsIn(text, "pasted")).map((rows) => [nameOf(rows), rows]);
-    const tables = blocks.filter(([name]) => name !== "grid"), put = Object.fromEntries(tables.map(([name, rows]) => [name, {rows, between}]));
+/** The cells of a text, with what parted them. Throws Faults where they are none. */
+export function blockIn(text) {
+    return {rows: rowsIn(text, "pasted"), between: separatorOf(text)};
+}
+
+/** A sheet with cells that were pasted or dropped: a grid, or one of the two tables beside the other; both may be in one block, one below the other. */
+export function withBlock(sheet, {rows, between}) {
+    const blocks = apart(rows).map((some) => [nameOf(some), some]), tables = blocks.filter(([name]) => name !== "grid");
+    const put = Object.fromEntries(tables.map(([name, some]) => [name, {rows: some, between}]));
     if (tables.length > 0) return {...EMPTY_SHEET, firms: sheet?.firms ?? null, lanes: sheet?.lanes ?? null, ...put};
-    return {...EMPTY_SHEET, grid: {rows: wholeGrid(rowsIn(text, "grid")), between}};
+    return {...EMPTY_SHEET, grid: {rows: wholeGrid(rows), between}};
+}
+
+/** Those of the sheets of a workbook that are taken: tables of firms and lanes, where there are some, and else the first. */
+export function chosenOf(sheets) {
+    const tables = sheets.filter((rows) => apart(rows).some((some) => nameOf(some) !== "grid"));
+    return (tables.length > 0 ? tables : sheets.slice(0, 1)).map((rows) => ({rows, between: "\t"}));
 }
 
 /** Tables that stand below each other, with empty rows between them: one begins where a row names its columns. */
@@ -68,11 +79,11 @@ export function withCell(sheet, table, row, column, text) {
 }
 
 /** A sheet with a block of cells from one cell on; it grows as it has to. */
-export function withCells(sheet, table, row, column, text) {
-    const block = rowsIn(text, table), {rows} = sheet[table], width = Math.max(rows[0].length, column + Math.max(...block.map((line) => line.length)));
+export function withCells(sheet, table, row, column, {rows: block, between}) {
+    const {rows} = sheet[table], width = Math.max(rows[0].length, column + Math.max(...block.map((line) => line.length)));
     const height = Math.max(rows.length, row + block.length), at = (r, c) => block[r - row]?.[c - column] ?? rows[r]?.[c] ?? "";
     const made = Array.from({length: height}, (_, r) => Array.from({length: width}, (_, c) => at(r, c)));
-    return {...sheet, [table]: {rows: made, between: separatorOf(text) === "\t" ? "\t" : sheet[table].between}};
+    return {...sheet, [table]: {rows: made, between: between === "\t" ? "\t" : sheet[table].between}};
 }
 
 /** A sheet with one more column, or row: a seller, a buyer, or a line of a table. */
@@ -122,6 +133,11 @@ function ofTables({firms, lanes, lot, unit, isRounded}) {
 function sizeIn(text) {
     const [found] = each([plainText(text)], (typed) => measureOf(typed, {}, typed.includes(",") ? "," : ".").value, []);
     return found !== undefined && found.numerator > 0n ? found : null;
+}
+
+/** What is wrong in a text of which no cells can be read, as a sentence; `name` is that of its file. */
+export function saysUnread({list: [fault]}, name) {
+    return saysFault(fault, () => name);
 }
 
 /** The cell of a fault's place: of one that only has the name of its column, by the head. */

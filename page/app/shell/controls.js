@@ -1,4 +1,5 @@
 // What a user does with buttons, fields, keys and files, as actions.
+import {isWorkbook, sheetsIn} from "../../read/workbook.js";
 import {say} from "../../words/say.js";
 import {EMPTY} from "../document/building.js";
 import {goTo, refreshEditor} from "../document/editor.js";
@@ -9,7 +10,8 @@ import {arrange} from "../document/terms.js";
 import {bindBegun, sayBegun} from "../exercise/begun.js";
 import {bindLesson} from "../exercise/lesson.js";
 import {sortedOut} from "../exercise/results.js";
-import {takeTables} from "../form/sheet.js";
+import {takeTables, takeTexts} from "../form/sheet.js";
+import {chosenOf} from "../form/sheets.js";
 import {objectors} from "../network/firms.js";
 import {zoomIn, zoomOut} from "../network/scene.js";
 import {COMMANDS} from "../program/commands.js";
@@ -45,21 +47,36 @@ export function bind(store, documents, run) {
     bindKept(store);
 }
 
-/** Opens files: of documents the last one, all results, and tables as the market that they make. */
+/** Opens files: of documents the last one, all results, and tables and workbooks as the market that they make. */
 async function open(store, list) {
-    const {results, files} = await sortedOut(list), isTable = ({bytes}) => store.value.document.exercise === null && openedAs(bytes).says === "file.table";
-    const tables = files.filter(isTable), documents = files.filter((file) => !isTable(file));
+    const {results, files} = await sortedOut(list), isOwn = ({bytes}) => store.value.document.exercise !== null || kindOfFile(bytes) === null;
+    const documents = files.filter(isOwn), tables = files.filter((file) => !isOwn(file)), workbooks = tables.filter(({bytes}) => isWorkbook(bytes));
     if (documents.length > 0) openFile(store, documents[documents.length - 1]);
-    if (tables.length > 0) openTables(tables);
+    if (workbooks.length < tables.length) openTables(tables.filter((file) => !workbooks.includes(file)));
+    for (const {name, bytes} of workbooks) await openWorkbook(name, bytes);
     if (results.length > 0) store.act("resulted", results);
+}
+
+/** Whether a file is a table or a workbook; null where it is none of these. */
+function kindOfFile(bytes) {
+    return isWorkbook(bytes) ? "workbook" : openedAs(bytes).says === "file.table" ? "table" : null;
 }
 
 /** Takes tables that are files; one that isn't UTF-8 is told. */
 function openTables(files) {
     const texts = files.map(({name, bytes}) => [name, textIn(openedAs(bytes).bytes)]), unread = texts.find(([, text]) => text === null);
-    part("notice").hidden = unread === undefined;
-    if (unread !== undefined) part("notice").textContent = say("sheet.no_utf8", {name: unread[0]});
-    else takeTables(...texts.map(([, text]) => text));
+    if (unread === undefined) return takeTexts(texts);
+    part("notice").hidden = false;
+    part("notice").textContent = say("sheet.no_utf8", {name: unread[0]});
+    return undefined;
+}
+
+/** Takes the sheets of a workbook; where there are none as they are wanted, that is told. */
+async function openWorkbook(name, bytes) {
+    const sheets = await sheetsIn(bytes).catch(() => []);
+    part("notice").hidden = sheets.length > 0;
+    if (sheets.length > 0) takeTables(chosenOf(sheets));
+    else part("notice").textContent = say("sheet.no_workbook", {name});
 }
 
 function textIn(bytes) {

@@ -10,6 +10,7 @@ import {networkOf, tableOf} from "../../../page/read/lanes.js";
 import {documentOf} from "../../../page/read/lots.js";
 import {Network} from "../../../page/read/network.js";
 import {templateOf} from "../../../page/read/templates.js";
+import {isWorkbook, sheetsIn} from "../../../page/read/workbook.js";
 import {saysFault} from "../../../page/say/tables.js";
 import {LANGUAGES} from "../../../page/words/say.js";
 import {answersOf} from "../ask.mjs";
@@ -91,4 +92,22 @@ test("what tools/lanes makes is known by its kinds", () => {
     const network = new Network(made[0].document);
     const kinds = network.data.firms.map((firm) => templateOf(firm, network.ownTrades(firm.name)).template);
     assert.deepEqual(kinds, ["seller-many", "seller-many", "maker", "buyer-many", "buyer-many"]);
+});
+
+/** The bytes of a workbook of parts, as Python packs them. */
+function workbookOf(parts) {
+    const made = "import io,json,sys,zipfile\nout=io.BytesIO()\nwith zipfile.ZipFile(out,'w',zipfile.ZIP_DEFLATED) as book:\n for name,text in json.load(sys.stdin).items(): book.writestr(name,text)\nsys.stdout.buffer.write(out.getvalue())";
+    return new Uint8Array(spawnSync("python3", ["-c", made], {input: JSON.stringify(parts)}).stdout);
+}
+
+test("the sheets of a workbook are rows of cells", async () => {
+    const sheet = '<worksheet><sheetData><row r="1"><c r="A1" t="s"><v>0</v></c><c r="C1" s="1"><v>3.1000000000000001</v></c></row>'
+        + '<row r="3"><c r="B3" t="inlineStr"><is><t>Gda\u0144sk</t></is></c><c r="AA3" t="str"><f>A1</f><v>a &amp; b</v></c><c r="C3"/></row></sheetData></worksheet>';
+    const bytes = workbookOf({"xl/worksheets/sheet2.xml": sheet, "xl/worksheets/sheet1.xml": "<worksheet><sheetData/></worksheet>",
+        "xl/sharedStrings.xml": '<sst><si><r><t xml:space="preserve">two </t></r><r><t>runs</t></r><rPh><t>no</t></rPh></si></sst>'});
+    assert.ok(isWorkbook(bytes));
+    const [rows, ...others] = await sheetsIn(bytes);
+    assert.deepEqual(others, []);
+    assert.deepEqual(rows.map((row) => row.map((cell, k) => [k, cell]).filter(([, cell]) => cell !== "")), [[[0, "two runs"], [2, "3.1"]], [], [[1, "Gda\u0144sk"], [26, "a & b"]]]);
+    assert.deepEqual(await sheetsIn(new Uint8Array([0x50, 0x4b, 3, 4, 0])), []);
 });
