@@ -84,7 +84,8 @@ function mostAt(cell, decimal) {
     const measure = numberAt(cell, decimal);
     if (measure === null) return 1;
     const {numerator, denominator} = measure.value;
-    if (denominator !== 1n || numerator < 1n || numerator > BigInt(LARGEST.own)) throw faultAt(cell.place, "sheet.capacity_wanted", {text: cell.text, most: LARGEST.own});
+    const isCapacity = denominator === 1n && numerator >= 1n && numerator <= BigInt(LARGEST.own);
+    if (!isCapacity) throw faultAt(cell.place, "sheet.capacity_wanted", {text: cell.text, most: LARGEST.own});
     return Number(numerator);
 }
 
@@ -135,7 +136,8 @@ export function gridIn(network, labels) {
     const {trades} = network, firms = itemsOf(network.data.firms).filter(isObject).map((firm) => knownFirm(network, firm));
     const pairs = new Set(trades.map(({seller, buyer}) => `${seller} ${buyer}`));
     if (trades.length === 0 || pairs.size < trades.length || !firms.every(isOfGrid)) return null;
-    const side = (name) => firms.filter(({template}) => sideOf(template) === name), unit = unitOf(network), shown = (number) => digits(new Fraction(number).times(unit), 12);
+    const side = (name) => firms.filter(({template}) => sideOf(template) === name);
+    const unit = unitOf(network), shown = (number) => digits(new Fraction(number).times(unit), 12);
     const sellers = side("seller"), most = ({numbers: {further}}) => `${further.length + 1}`;
     const worth = (seller, {name, numbers}) => {
         const trade = trades.find((each) => each.seller === seller.name && each.buyer === name);
@@ -169,5 +171,6 @@ function unitOf({data: {note}}) {
 /** An empty grid of so many sellers and buyers. */
 export function emptyGrid(sellers, buyers, labels) {
     const names = (letter, count) => Array.from({length: count}, (_, k) => `${letter}${k + 1}`), blank = Array(sellers).fill("");
-    return [["", labels.most, ...names("S", sellers)], [labels.cost, "", ...blank], [labels.most, "", ...blank], ...names("B", buyers).map((name) => [name, "", ...blank])];
+    return [["", labels.most, ...names("S", sellers)], [labels.cost, "", ...blank], [labels.most, "", ...blank],
+        ...names("B", buyers).map((name) => [name, "", ...blank])];
 }

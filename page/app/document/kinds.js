@@ -25,7 +25,8 @@ export function textOfNew(name, template) {
 export function wouldLose(network, firm, template) {
     const before = kindOf(network, firm), hasSets = memberOf(firm, "sets", "list")?.value.length > 0;
     const isKept = sideOf(template) !== null && (sideOf(before.template) === sideOf(template) || (before.template === "laminar" && !hasSets));
-    const isSaid = ["rows", "amounts", "costs", "gains", "pairs"].some((list) => memberOf(firm, list, "list")?.value.length > 0) || firm.value.get("keep")?.kind === "number";
+    const isListed = ["rows", "amounts", "costs", "gains", "pairs"].some((list) => memberOf(firm, list, "list")?.value.length > 0);
+    const isSaid = isListed || firm.value.get("keep")?.kind === "number";
     return !isKept && (isSaid || (before.template === "laminar" ? hasSets : hasNumbers(before)));
 }
 

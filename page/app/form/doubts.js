@@ -9,9 +9,12 @@ import {button} from "./parts.js";
 /** How many doubts are shown at once. */
 const MOST = 5;
 
+const known = new WeakMap();
+
 /** The group of the form that has them; none where nothing is doubted. */
 export function doubtsGroup(network) {
-    const doubts = together(doubtsOf(network)), lines = doubts.slice(0, MOST).map((doubt, k) => lineOf(network, doubt, k)), left = doubts.length - lines.length;
+    if (!known.has(network)) known.set(network, together(doubtsOf(network)));
+    const doubts = known.get(network), lines = doubts.slice(0, MOST).map((doubt, k) => lineOf(network, doubt, k)), left = doubts.length - lines.length;
     const hint = left > 0 ? say("doubt.more", {count: left}) : "";
     return lines.length === 0 ? [] : [{key: "doubts", title: say("doubt.title"), hint, lines}];
 }
@@ -56,6 +59,7 @@ function tradeAt(network, name) {
 
 /** The edits that pair a trade of a dealer with all of the other side, at no cost. */
 function paired(network, firm, trade) {
-    const own = network.ownTrades(firm), {isSale} = own.find(({name}) => name === trade), others = own.filter((each) => each.isSale !== isSale).map(({name}) => name);
+    const own = network.ownTrades(firm), {isSale} = own.find(({name}) => name === trade);
+    const others = own.filter((each) => each.isSale !== isSale).map(({name}) => name);
     return itemsAdded(firmAt(network, firm), "pairs", others.map((other) => JSON.stringify([...(isSale ? [other, trade] : [trade, other]), 0])));
 }

@@ -57,7 +57,8 @@ function firmsGroup(network, names, place) {
 
 /** The parts of the form that are of one firm. */
 function ofFirm(network, {node, name}, names, asked, isFree) {
-    const known = kindOf(network, node), kind = isFree && known.numbers !== null ? {template: "laminar", numbers: null} : known, remove = () => firmRemoved(network, node), own = network.ownTrades(name);
+    const known = kindOf(network, node), kind = isFree && known.numbers !== null ? {template: "laminar", numbers: null} : known;
+    const remove = () => firmRemoved(network, node), own = network.ownTrades(name);
     const head = [
         nameOf("firm name", ["head.name", "form.name_of"], network, "firms", node, names),
         {...choice("firm kind", say("form.kind"), say("form.kind"), kind.template, templatesFor(own)), ...kindChosen(network, node, known)},

@@ -17,7 +17,7 @@ export const FORM = {
     },
     kind: {
         seller_one: "verkauft eines (gleich welches)", seller_many: "verkauft bis zu so viele", buyer_one: "kauft eines (gleich welches)",
-        buyer_many: "kauft bis zu so viele, jedes weitere weniger wert", maker: "Hersteller: kauft das eine, verkauft das andere",
+        buyer_many: "kauft bis zu so viele", maker: "Hersteller: kauft das eine, verkauft das andere",
         middleman: "Zwischenhandel: kauft eines und verkauft es weiter", dealer: "Handel: verkauft Gekauftes weiter, in Paaren",
         laminar: "als Beträge, Kapazitäten und Stufen", table: "als Zahlen für jedes Bündel",
     },
@@ -30,8 +30,8 @@ export const FORM = {
         pair: "Ein Paar mit jedem anderen machen", remove_trade: "Geschäft entfernen", unwanted: "Niemand würde {trade} je wollen: {buyer} zahlt bis {most}, und {seller} verkauft ab {least}.",
     },
     does: {
-        seller_one: "Verkauft eines, gleich an wen, ab {price}.", seller_many: "Verkauft bis zu {most}, das erste ab {price}.",
-        buyer_one: "Kauft eines, gleich von wem, und zahlt bis {price}.", buyer_many: "Kauft bis zu {most} und zahlt für das erste bis {price}.",
+        seller_one: "Verkauft eines, gleich an wen, ab {price}.", seller_many: "Verkauft bis zu {most}, das erste ab {price}, jedes weitere nicht billiger.",
+        buyer_one: "Kauft eines, gleich von wem, und zahlt bis {price}.", buyer_many: "Kauft bis zu {most} und zahlt für das erste bis {price}, für jedes weitere nicht mehr.",
         maker: "Macht aus Gekauftem, was verkauft wird, eines aus einem, bis zu {most}, das erste für {price}.",
         middleman: "Kauft eines und verkauft es weiter; behält es nur, wo das gesagt ist.", dealer: "Verkauft Gekauftes weiter, jeden Kauf als einen Verkauf, mit dem er ein Paar ist.",
         laminar: "Jedes Geschäft ist seinen Betrag wert, und jede Menge gibt eine Zahl dazu, je nachdem, wie viele ihrer Geschäfte zustande kommen.",

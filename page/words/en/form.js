@@ -16,7 +16,7 @@ export const FORM = {
     },
     kind: {
         seller_one: "seller of one (any of these)", seller_many: "seller of up to so many", buyer_one: "buyer of one (any of these)",
-        buyer_many: "buyer of up to so many, each further one worth less", maker: "maker: buys one kind, sells another",
+        buyer_many: "buyer of up to so many", maker: "maker: buys one kind, sells another",
         middleman: "middleman: buys one and sells it on", dealer: "dealer: sells on what is bought, paired",
         laminar: "as amounts, capacities and steps", table: "as numbers for each bundle",
     },
@@ -29,8 +29,8 @@ export const FORM = {
         pair: "Pair it with all others", remove_trade: "Remove the trade", unwanted: "Nobody would ever want {trade}: {buyer} pays up to {most}, and {seller} sells from {least}.",
     },
     does: {
-        seller_one: "Sells one, to any of them, from {price}.", seller_many: "Sells up to {most}, from {price} for the first.",
-        buyer_one: "Buys one, from any of them, and pays up to {price}.", buyer_many: "Buys up to {most}, and pays up to {price} for the first.",
+        seller_one: "Sells one, to any of them, from {price}.", seller_many: "Sells up to {most}, from {price} for the first, and no less for each further one.",
+        buyer_one: "Buys one, from any of them, and pays up to {price}.", buyer_many: "Buys up to {most}, and pays up to {price} for the first, and no more for each further one.",
         maker: "Makes what is sold of what is bought, one of one, up to {most}, at a cost of {price} for the first.",
         middleman: "Buys one and sells it on; keeps it only where that is said.", dealer: "Sells on what is bought, each purchase as a sale that it is paired with.",
         laminar: "Each trade is worth its amount, and each set adds a number by how many of its trades take place.",
