@@ -49,7 +49,7 @@ export function bind(store, documents, run) {
 
 /** Opens files: of documents the last one, all results, and tables and workbooks as the market that they make. */
 async function open(store, list) {
-    const {results, files} = await sortedOut(list), isOwn = ({bytes}) => store.value.document.exercise !== null || kindOfFile(bytes) === null;
+    const {results, files} = await sortedOut(list), isOwn = (file) => store.value.document.exercise !== null || !isOfCells(file);
     const documents = files.filter(isOwn), tables = files.filter((file) => !isOwn(file)), workbooks = tables.filter(({bytes}) => isWorkbook(bytes));
     if (documents.length > 0) openFile(store, documents[documents.length - 1]);
     if (workbooks.length < tables.length) openTables(tables.filter((file) => !workbooks.includes(file)));
@@ -57,9 +57,9 @@ async function open(store, list) {
     if (results.length > 0) store.act("resulted", results);
 }
 
-/** Whether a file is a table or a workbook; null where it is none of these. */
-function kindOfFile(bytes) {
-    return isWorkbook(bytes) ? "workbook" : openedAs(bytes).says === "file.table" ? "table" : null;
+/** Whether a file is a workbook or a table, by what stands in it or by its name. */
+function isOfCells({name, bytes}) {
+    return isWorkbook(bytes) || openedAs(bytes).says === "file.table" || /\.(csv|tsv)$/i.test(name);
 }
 
 /** Takes tables that are files; one that isn't UTF-8 is told. */
