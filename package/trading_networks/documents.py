@@ -158,6 +158,11 @@ class Document:
         return self._writing().codes
 
     @property
+    def firm_codes(self) -> dict[str, str]:
+        """What each firm is called there, in the same way."""
+        return self._writing().names
+
+    @property
     def document(self) -> Json:
         """The document: a dictionary, of the least version that has room for it. Warns of firms that would never trade."""
         for name, kind in self._firms.items():

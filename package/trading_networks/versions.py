@@ -13,12 +13,13 @@ TABLE, SETS, MOST_UNITS = 14, 64, 1_048_576
 @dataclass(frozen=True)
 class Version:
     """A version of documents: the most firms, and the most trades; the most trades of a firm that is no table; the
-    largest number of a firm; the most sets of a firm; and the most units of all trades together."""
+    largest number of a firm; the most edits; the most sets of a firm; and the most units of all trades together."""
     number: int
     most_firms: int
     most: int
     most_own: int
     largest: int
+    most_edits: int
     most_sets: int = SETS
     most_units: int = MOST_UNITS
 
@@ -27,7 +28,7 @@ class Version:
         bounds = [("firms", needs.firms, self.most_firms), ("trades", needs.trades, self.most),
                   ("trades of one firm", needs.own, self.most_own), ("trades of one table", needs.table_own, TABLE),
                   ("as a number of a firm", needs.largest, self.largest), ("sets of one firm", needs.sets, self.most_sets),
-                  ("units of all trades", needs.units, self.most_units)]
+                  ("units of all trades", needs.units, self.most_units), ("edits", needs.edits, self.most_edits)]
         return next((f"{count:,} {what}, and {most:,} is the most" for what, count, most in bounds if count > most), None)
 
 
@@ -42,11 +43,13 @@ class Needs:
     sets: int
     units: int
     has_units: bool
+    edits: int = 0
 
 
-OF_LOTS = tuple(Version(int(number), each["most"], each["most"], each["own"], each["amount"]) for number, each in LIMITS.items())
+OF_LOTS = tuple(Version(int(number), each["most"], each["most"], each["own"], each["amount"], each["edits"])
+                for number, each in LIMITS.items())
 """The versions in which a trade is one unit."""
-OF_UNITS = Version(4, 1_024, 4_096, 4_096, 10_000_000, 4_096)
+OF_UNITS = Version(4, 1_024, 4_096, 4_096, 10_000_000, 2_048, 4_096)
 """The version in which a trade has units, and no firm is a table."""
 
 

@@ -53,7 +53,7 @@ class Writing:
             isinstance(kind, kinds.Middleman) and kind.most > 1 for kind in self.firms.values())
         ends = {name: self.ends(name) for name in self.trades}
         firms = self.written_firms(Manner(self.unit, self.codes, units, has_units))
-        version = version_for(self.needs(firms, sum(units.values()), has_units))
+        version = version_for(self.needs(firms, sum(units.values()), has_units, len(parts.edits or ())))
         if version is OF_UNITS and not has_units:
             firms = self.written_firms(Manner(self.unit, self.codes, units, True))
         trades = [self.written_trade(name, *ends[name]) for name in self.trades]
@@ -117,13 +117,13 @@ class Writing:
             return "no firm has it"
         return f"no firm {'buys' if trade.sellers else 'sells'} it; {(known or others)[0]} has it"
 
-    def needs(self, firms: Sequence[Json], units: int, has_units: bool) -> Needs:
+    def needs(self, firms: Sequence[Json], units: int, has_units: bool, edits: int) -> Needs:
         """How large the network is."""
         own = {name: len(set(kind.own())) for name, kind in self.firms.items()}
         return Needs(len(own), len(self.trades),
                      max((count for name, count in own.items() if name not in self.tables), default=0),
                      max((len(trades) for trades in self.tables.values()), default=0), max(map(largest, firms), default=0),
-                     max((len(firm.get("sets", ())) for firm in firms), default=0), units, has_units)
+                     max((len(firm.get("sets", ())) for firm in firms), default=0), units, has_units, edits)
 
     def parts(self, parts: Parts, has_units: bool) -> Iterator[tuple[str, Any]]:
         """The parts beside the network."""
