@@ -108,9 +108,13 @@ class Document:
     def table(self, name: str, *, worths: Mapping[Union[str, tuple[str, ...]], Amount]) -> Document:
         """A firm with a worth for each bundle that is possible; a trade alone may stand without a tuple. What a bundle
         costs is a worth below 0. Its trades are those of firms of other kinds, or `trade` says on which side it is."""
-        rows = {(bundle,) if isinstance(bundle, str) else tuple(bundle): exact(worth, f"{name}, {bundle}")
-                for bundle, worth in worths.items()}
-        return self._add(name, kinds.Table(rows))
+        rows: dict[frozenset[str], tuple[tuple[str, ...], Fraction]] = {}
+        for bundle, worth in worths.items():
+            trades = (bundle,) if isinstance(bundle, str) else tuple(bundle)
+            if len(set(trades)) < len(trades) or frozenset(trades) in rows:
+                raise Trouble(f"{name}: {' '.join(trades)} is a bundle that is named twice, or names a trade twice")
+            rows[frozenset(trades)] = trades, exact(worth, f"{name}, {' '.join(trades)}")
+        return self._add(name, kinds.Table(dict(rows.values())))
 
     # Trades and parts
 
