@@ -26,8 +26,7 @@ pub returns-clause-within : goal.returns-clause-within
 returns-clause-within c =
     let small = c.in_ok-solved.ensures.small_surplus in
     let fit : SFits w128 c.in_ok-solved.solved.surplus = omega (arith, ints, small.low, small.high) in
-    let is = returns-clause-answer c in
-    (
+    let is = returns-clause-answer c in (
       counts_short c.args.document.now c.from_vec.result c.trades.ensures.kept is.efficient.1.within is.counted,
       rw c.from_vec-2.ensures (All-weaker (λ price. IsAtMost price most_unit_price) IsWithinPrices
           (λ price at. record { low = omega (arith, ints, at.low); high = omega (arith, ints, at.high) })
