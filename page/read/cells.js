@@ -1,5 +1,5 @@
-// Tables as spreadsheets write them: rows of cells, what parts these, and their numbers, each with its place. `tools/lanes_lib/tables.py`
-// reads the same.
+// Tables as spreadsheets write them: rows of cells, what parts these, and their numbers, each with its place.
+// `package/trading_networks/tables.py` reads the same.
 import {Fraction} from "./fractions.js";
 
 const SEPARATORS = [",", ";", "\t"], MARK = "\ufeff";

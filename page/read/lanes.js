@@ -1,4 +1,4 @@
-// Firms and lanes as two tables have them, in their own quantities and money. `tools/lanes_lib/network.py` reads the same.
+// Firms and lanes as two tables have them, in their own quantities and money. `package/trading_networks/lane_tables.py` reads the same.
 import {decimalIn, each, faultAt, measureOf, plainText, separatorOf, throwAll, digits} from "./cells.js";
 import {ZERO} from "./fractions.js";
 

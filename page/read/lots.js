@@ -1,5 +1,5 @@
 // The document that firms and lanes make: every quantity in lots, every amount in whole units of money, a trade for each lot that may
-// go by a lane. `tools/lanes_lib/document.py` makes the same, byte by byte, and says why it is made so.
+// go by a lane. `package/trading_networks/lanes.py` makes the same, byte by byte, and says why it is made so.
 import {digits, each, faultAt, throwAll} from "./cells.js";
 import {common, Fraction, ONE} from "./fractions.js";
 import {BUYS, SELLS, saysLane} from "./lanes.js";
