@@ -5,12 +5,14 @@ use Rattle.std.specs.List.{AllByRecursion}
 use Rattle.tn_answer.specs.AnswerText.{answer_line}
 use Rattle.tn_cases.specs.Case.{CaseData}
 use Rattle.tn_file.specs.Document.{DocumentData, reading_of}
+use Rattle.tn_file.proofs.ReadingLemmas.{networks_read}
 use Rattle.tn_said.specs.declared.said.Said.{Said}
 use Rattle.tn_run.specs.Answer.{IsAnswerOf, IsAnswerTo}
 use Rattle.tn_run.specs.Cases.{IsCaseAnswer, IsAllowed}
 use Rattle.tn_run.specs.Run.{status_of}
 use Rattle.tn_run.specs.Status.{status_number}
 use Rattle.tn_run.specs.Words.{case_command, case_layout}
+use Rattle.tn_file.specs.Readings.{any_reading_of, network}
 use Rattle.tn_file.specs.declared.command.Command.{Command}
 use Rattle.tn_case_laws.specs.Laws.{HasOneAnswer}
 
@@ -24,18 +26,21 @@ one_answer case command doc said command_is reading_is answers only_said status_
     names = doc.names;
     said = said;
     answer = subst (λ c. IsCaseAnswer c case.document doc.names said) (sym command_is)
-        (subst (λ r. IsAnswerTo command r doc.names said) (sym reading_is) (answers, refl));
+        (subst (λ r. IsAnswerTo command r doc.names said) (sym any_reading_is) (answers, refl));
     status_is = status_is;
     text_is = text_is;
   };
   only = only;
 }
   where
+    any_reading_is : any_reading_of command case.document ≡ Ok (network doc)
+    any_reading_is = networks_read command case.document doc reading_is
+
     only : (status : ℕ) (text : List ℕ) → IsAllowed case status text → (status ≡ case.status) × (text ≡ case.text)
     only status text allowed =
         let on_document = subst (λ c. IsCaseAnswer c case.document allowed.names allowed.said) command_is allowed.answer
         in
-        let on_read = subst (λ r. IsAnswerTo command r allowed.names allowed.said) reading_is on_document in
+        let on_read = subst (λ r. IsAnswerTo command r allowed.names allowed.said) any_reading_is on_document in
         let same = only_said allowed.said on_read.0 in
         let same_names = on_read.1 in
         let layout = case_layout case.command in

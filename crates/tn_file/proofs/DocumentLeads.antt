@@ -1,6 +1,6 @@
 -- Every document that is read is a network with its names.
-use Rattle.std.proofs.Common.{◌≡◌, ℕ, ◌<◌, ◌≤◌, ◌^◌, List, [], ◌∷◌, length, Option, Some, Result, Ok, Err, refl, sym, ap, subst, ◌∙◌, arith}
-use Rattle.std.specs.Prelude.{codes, not, map, option_and_then, Bool, IfOk}
+use Rattle.std.proofs.Common.{◌≡◌, ℕ, ◌<◌, ◌≤◌, ◌^◌, List, [], ◌∷◌, length, Option, Some, Ok, refl, sym, ap, subst, ◌∙◌, arith}
+use Rattle.std.specs.Prelude.{codes, not, map, option_and_then, Bool}
 use Rattle.serde_json.specs.Data.{Data, Items}
 use Rattle.serde_json.specs.Events.{items_len}
 use Rattle.serde_json.specs.Find.{get, as_number, as_u64}
@@ -35,16 +35,12 @@ use Rattle.tn_read_claims.specs.Laws.{KeepsClaimLimits}
 use Rattle.tn_file.specs.Document.{DocumentData, ExtraData, nothing, arrangement, on_alone, outcome, edits, claim, extra_of, content_of, document_of, is_accepted, is_tested, reading_of}
 use Rattle.tn_read_head.specs.Listing.{limits_at, listed_of}
 use Rattle.tn_read_head.specs.Naming.{one_firm_name, one_trade}
-use Rattle.tn_read_head.specs.Refused.{Reads}
-use Rattle.tn_read_head.specs.declared.refusal.DocRefusal.{DocRefusal}
-use Rattle.tn_file.specs.Refusal.{document_view}
 use Rattle.tn_file.specs.Parts.{AreFor, AreTested, parts_view}
 use Rattle.tn_file.specs.declared.network.Parts.{Parts}
 use Rattle.tn_file.specs.declared.network.Parts.TheVariants.{Market as MarketParts, Raw as RawParts}
 use Rattle.tn_firm.specs.Firms.{firm_of}
 use Rattle.tn_said.specs.Claim.{Claim as ClaimIs, is_raw}
-use Rattle.tn_file.specs.declared.document.Document.{Document}
-use Rattle.tn_file.specs.Laws.{IsDocument, IsDocumentOf, IsExtra, KeepsLimits, DocumentsAreNetworks}
+use Rattle.tn_file.specs.Laws.{IsDocument, IsDocumentOf, IsExtra, KeepsLimits}
 use Rattle.tn_read_shapes.proofs.LeadLemmas.{Leads, leads_ok, leads_as, leads_bind, leads_after, leads_both, leads_wanted}
 use Rattle.tn_read_head.proofs.BesideLemmas.{leads_beside}
 use Rattle.tn_read_firms.proofs.FirmLeads.{AreFirms, firms_are, firms_are_counted, network_of, positions_ascend}
@@ -332,15 +328,10 @@ reading_leads command bytes =
       version = record { top = top; stands = stands; says = is.says };
     }) (said_leads command top))
 
-pub documents_are_of_their_version : DocumentsAreNetworks
-documents_are_of_their_version command bytes doc e = (reading_leads command bytes).at doc e
+pub networks_are_of_their_version : (command : Command) (bytes : List ℕ) (doc : DocumentData)
+    → reading_of command bytes ≡ Ok doc → IsDocumentOf command bytes doc
+networks_are_of_their_version command bytes doc e = (reading_leads command bytes).at doc e
 
 pub documents_are_networks : (command : Command) (bytes : List ℕ) (doc : DocumentData) → reading_of command bytes ≡ Ok doc
     → IsDocument command doc
-documents_are_networks command bytes doc e = (documents_are_of_their_version command bytes doc e).document
-
--- and so is every document that was returned
-pub networks_from : (command : Command) (bytes : List ℕ) (r : Result Document DocRefusal)
-    → Reads document_view r (reading_of command bytes) → IfOk r (λ doc. IsDocument command (document_view doc))
-networks_from command bytes (Ok doc) reads = documents_are_networks command bytes (document_view doc) reads
-networks_from command bytes (Err refusal) reads = tt
+documents_are_networks command bytes doc e = (networks_are_of_their_version command bytes doc e).document

@@ -1,5 +1,5 @@
 -- Wherever reading stops, its fault speaks of named trades, and the names beside it keep the rules.
-use Rattle.std.proofs.Common.{◌≡◌, ℕ, ◌<◌, ◌≤◌, List, [], length, refl, arith}
+use Rattle.std.proofs.Common.{◌≡◌, ℕ, ◌<◌, ◌≤◌, List, [], length, refl, arith, Err}
 use Rattle.serde_json.specs.Data.{Data, Items}
 use Rattle.serde_json.specs.Events.{items_len}
 use Rattle.tn_model.specs.Limits.{most_own_trades}
@@ -13,7 +13,7 @@ use Rattle.tn_names.specs.Names.{no_names}
 use Rattle.tn_file.specs.declared.command.Command.{Command}
 use Rattle.tn_file.specs.declared.command.Command.TheVariants.{Check, Firms, Judge, Range, Replay, Session, Solve, Support, Test}
 use Rattle.tn_read_references.specs.Ordered.{AreTrades, Listed, sides_of}
-use Rattle.tn_read_head.specs.Beside.{with_names, IsStop}
+use Rattle.tn_read_head.specs.Beside.{with_names, IsStop, Stop}
 use Rattle.tn_read_shapes.specs.Reading.{each, wanted}
 use Rattle.tn_file.specs.Json.{json_of}
 use Rattle.tn_read_parts.specs.Arranged.{arrangement_of, trades_on_of}
@@ -22,7 +22,6 @@ use Rattle.tn_read_parts.specs.Edited.{edits_of}
 use Rattle.tn_read_firms.specs.Firms.{one_firm}
 use Rattle.tn_file.specs.Document.{arrangement, nothing, on_alone, outcome, edits, claim, content_of, document_of, extra_of, is_tested, reading_of}
 use Rattle.tn_read_head.specs.Listing.{listed_of}
-use Rattle.tn_file.specs.Laws.{FaultsAreSayable, ReadingsAreNeverTooLong}
 use Rattle.tn_read_head.proofs.ListingLeads.{IsListing, listed_leads}
 use Rattle.tn_read_shapes.proofs.StopLemmas.{IsPlain, Stops, plain_wanted, stops_after, stops_bind, stops_ok}
 use Rattle.tn_read_references.proofs.ToldLemmas.{IsTold, told_from_plain}
@@ -100,8 +99,6 @@ reading_stops command bytes =
     (plain_wanted NotJson [] (json_of bytes) refl tt)) (λ top.
     document_stops command top)
 
-pub faults_are_sayable : FaultsAreSayable
-faults_are_sayable command bytes stop e = (reading_stops command bytes).at stop e
-
-pub readings_are_never_too_long : ReadingsAreNeverTooLong
-readings_are_never_too_long command bytes stop e = (faults_are_sayable command bytes stop e).read
+pub network_faults_are_sayable : (command : Command) (bytes : List ℕ) (stop : Stop) → reading_of command bytes ≡ Err stop
+    → IsStop stop
+network_faults_are_sayable command bytes stop e = (reading_stops command bytes).at stop e

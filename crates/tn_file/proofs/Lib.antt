@@ -2,4 +2,5 @@
 pub mod JsonLemmas
 pub mod DocumentLeads
 pub mod DocumentStops
+pub mod ReadingLemmas
 pub mod SizeLemmas

@@ -4,6 +4,8 @@ use Rattle.tn_file.specs.declared.asked.Asked.{Asked}
 use Rattle.tn_file.specs.declared.asked.Asked.TheVariants.{Check, Judge, Range, Replay, Session, Solve, Support}
 use Rattle.tn_file.specs.declared.asked.RawAsked.{RawAsked}
 use Rattle.tn_file.specs.declared.asked.RawAsked.TheVariants.{Firms, Replay as RawReplay, Test}
+use Rattle.tn_file.specs.declared.asked.UnitAsked.{UnitAsked}
+use Rattle.tn_file.specs.declared.asked.UnitAsked.TheVariants.{Solve as UnitSolve, Test as UnitTest}
 use Rattle.tn_file.specs.declared.command.Command.{Command}
 use Rattle.tn_file.specs.declared.command.Command.TheVariants.{Check as CheckIs, Firms as FirmsIs, Judge as JudgeIs, Range as RangeIs, Replay as ReplayIs, Session as SessionIs, Solve as SolveIs, Support as SupportIs, Test as TestIs}
 use Rattle.tn_file.specs.Document.{ExtraData, nothing, arrangement, on_alone, outcome, edits, claim}
@@ -35,3 +37,7 @@ abbrev pub raw_part_of : RawAsked → ExtraData
 raw_part_of (Firms at) = arrangement (record { on = at.on; prices = at.prices })
 raw_part_of (RawReplay read) = claim (on_firms read)
 raw_part_of Test = nothing
+
+abbrev pub unit_asked_by : UnitAsked → Command
+unit_asked_by UnitSolve = SolveIs
+unit_asked_by UnitTest = TestIs

@@ -1,5 +1,5 @@
 -- What holds of every document that is read, and of every fault, in words that know nothing of the reading.
-use Rattle.std.specs.Prelude.{◌≡◌, ◌≢◌, ℕ, ◌≤◌, ◌<◌, ◌^◌, List, length, slice_get, codes, true, Some, option_and_then, Ok, Err}
+use Rattle.std.specs.Prelude.{◌≡◌, ◌≢◌, ℕ, ◌≤◌, ◌<◌, ◌^◌, List, [], length, slice_get, codes, true, false, Some, option_and_then, Ok, Err}
 use Rattle.serde_json.specs.Data.{Data}
 use Rattle.serde_json.specs.Find.{get, as_number, as_u64}
 use Rattle.tn_said.specs.declared.fault.FaultKind.TheVariants.{TooLong}
@@ -16,7 +16,13 @@ use Rattle.tn_names.specs.Names.{IsNameList}
 use Rattle.tn_file.specs.declared.command.Command.{Command}
 use Rattle.tn_read_head.specs.Beside.{Stop, IsStop}
 use Rattle.tn_file.specs.Json.{json_of}
-use Rattle.tn_file.specs.Document.{DocumentData, ExtraData, nothing, arrangement, on_alone, outcome, edits, claim, is_accepted, reading_of}
+use Rattle.tn_file.specs.Document.{DocumentData, ExtraData, nothing, arrangement, on_alone, outcome, edits, claim, is_accepted}
+use Rattle.tn_file.specs.Readings.{AnyDocument, network, units, answers_units, any_reading_of, no_such_version, says_units}
+use Rattle.tn_read_shapes.specs.Shapes.{object_of}
+use Rattle.tn_read_shapes.specs.declared.members.ObjectKind.TheVariants.{Top}
+use Rattle.tn_read_units.specs.Documents.{IsUnitDocument}
+use Rattle.tn_read_units.specs.Limits.{unit_version}
+use Rattle.tn_read_units.specs.Stops.{IsNamedDocument}
 use Rattle.tn_read_claims.specs.Laws.{KeepsClaimLimits}
 use Rattle.tn_read_firms.specs.Laws.{IsListedFirm}
 use Rattle.tn_read_parts.specs.Arranged.{IsArrangement}
@@ -74,17 +80,34 @@ pub record IsDocumentOf (command : Command) (bytes : List ℕ) (doc : DocumentDa
   pub document : IsDocument command doc
   pub version : SaysVersion bytes document.version
 
+-- a document of any version: a network, or laminar firms between which trades have units, with their names
+abbrev pub IsAnyDocument : Command → AnyDocument → Type 0
+IsAnyDocument command (network doc) = IsDocument command doc
+IsAnyDocument command (units doc) = IsUnitDocument doc × IsNamedDocument doc
+
+-- within the limits of the version that its bytes say
+abbrev pub IsAnyDocumentOf : Command → List ℕ → AnyDocument → Type 0
+IsAnyDocumentOf command bytes (network doc) = IsDocumentOf command bytes doc
+IsAnyDocumentOf command bytes (units doc) = IsUnitDocument doc × IsNamedDocument doc × SaysVersion bytes unit_version
+
 -- every document that is read is one
 abbrev pub DocumentsAreNetworks : Type 0
-DocumentsAreNetworks = (command : Command) (bytes : List ℕ) (doc : DocumentData) → reading_of command bytes ≡ Ok doc
-    → IsDocumentOf command bytes doc
+DocumentsAreNetworks = (command : Command) (bytes : List ℕ) (doc : AnyDocument) → any_reading_of command bytes ≡ Ok doc
+    → IsAnyDocumentOf command bytes doc
+
+-- where a command answers no documents whose trades have units, their version is its first fault, once their members are
+-- those of a document
+abbrev pub UnitsAreAVersionOfSome : Type 0
+UnitsAreAVersionOfSome = (command : Command) (bytes : List ℕ) (top : Data) → json_of bytes ≡ Some top
+    → answers_units command ≡ false → says_units top ≡ true → object_of Top [] (Some top) ≡ Ok tt
+    → any_reading_of command bytes ≡ Err no_such_version
 
 -- wherever reading stops, its fault and the names beside it keep the rules of a stop
 abbrev pub FaultsAreSayable : Type 0
-FaultsAreSayable = (command : Command) (bytes : List ℕ) (stop : Stop) → reading_of command bytes ≡ Err stop
+FaultsAreSayable = (command : Command) (bytes : List ℕ) (stop : Stop) → any_reading_of command bytes ≡ Err stop
     → IsStop stop
 
 -- no byte of an input that is too long is read: wherever reading stops, it isn't for that
 abbrev pub ReadingsAreNeverTooLong : Type 0
-ReadingsAreNeverTooLong = (command : Command) (bytes : List ℕ) (stop : Stop) → reading_of command bytes ≡ Err stop
+ReadingsAreNeverTooLong = (command : Command) (bytes : List ℕ) (stop : Stop) → any_reading_of command bytes ≡ Err stop
     → stop.fault.kind ≢ TooLong

@@ -5,4 +5,6 @@ pub mod Asked
 pub mod RawData
 pub mod Parts
 pub mod Refusal
+pub mod Readings
 pub mod Laws
+pub mod Reads

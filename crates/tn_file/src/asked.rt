@@ -33,3 +33,12 @@ pub enum RawAsked {
     /// Whether they meet exchange.
     Test,
 }
+
+/// What is asked about firms by counts, of a document whose trades have units, by its command.
+#[derive(Clone, Copy)]
+pub enum UnitAsked {
+    /// An equilibrium.
+    Solve,
+    /// Whether they meet exchange.
+    Test,
+}

@@ -1,6 +1,6 @@
 //! A document that is read.
 
-use crate::asked::{Asked, RawAsked};
+use crate::asked::{Asked, RawAsked, UnitAsked};
 use std::alloc::Global;
 use std::marker::Model;
 use tn_base::{Bundle, OutOfMemory};
@@ -9,8 +9,18 @@ use tn_market::{Ends, Market, Trades};
 use tn_model::trades_of;
 use tn_names::Names;
 use tn_read_firms::own_option;
+use tn_read_units::UnitDocument;
 
-/// A document that is read.
+/// A document that is read, whatever its version.
+#[derive(Drop)]
+pub enum ReadDocument {
+    /// A network of single trades, with what is asked about it.
+    Network(Document),
+    /// Firms between which trades have units, and what is asked about them.
+    Units(UnitDocument, UnitAsked),
+}
+
+/// A document of single trades that is read.
 #[derive(Drop)]
 pub struct Document {
     /// The names of the firms and of the trades.

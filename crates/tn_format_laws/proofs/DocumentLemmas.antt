@@ -159,7 +159,7 @@ module _ (second : ℕ) where
       ap (holds Shape []) (sym (allows_put Top (codes "version") (number (unsigned second)) ms version_allowed))
 
   -- a value that says a version is an object, and says the other one then
-  second_said : (top : Data) (a b : Limits) → limits_at top ≡ Ok a → limits_of second ≡ Some b
+  pub second_said : (top : Data) (a b : Limits) → limits_at top ≡ Ok a → limits_of second ≡ Some b
       → limits_at (with_version second top) ≡ Ok b
   unfolding with_version limits_at
   second_said null a b says is = absurd (cc)

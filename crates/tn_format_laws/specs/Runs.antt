@@ -4,6 +4,7 @@ use Rattle.serde_json.specs.Data.{Data}
 use Rattle.tn_said.specs.declared.said.Said.{Said}
 use Rattle.tn_names.specs.Names.{NameLists}
 use Rattle.tn_file.specs.Document.{reading_of}
+use Rattle.tn_file.specs.Readings.{any_reading_of}
 use Rattle.tn_file.specs.Json.{json_of}
 use Rattle.tn_file.specs.declared.command.Command.{Command}
 use Rattle.tn_run.specs.Answer.{IsAnswerTo}
@@ -22,5 +23,5 @@ abbrev pub AnswersAreThoseOfEachVersion : Type 0
 AnswersAreThoseOfEachVersion = (command : Command) (bytes other : List ℕ) → AreBytesOfVersions bytes other
     → (StopsAtLimit (reading_of command bytes) → ⊥)
     → (StopsAtLimit (reading_of command other) → ⊥) → (names : NameLists) (said : Said)
-    → IsAnswerTo command (reading_of command bytes) names said
-    ↔ IsAnswerTo command (reading_of command other) names said
+    → IsAnswerTo command (any_reading_of command bytes) names said
+    ↔ IsAnswerTo command (any_reading_of command other) names said

@@ -17,6 +17,8 @@ use Rattle.tn_file.specs.declared.command.Command.{Command}
 use Rattle.tn_file.specs.Document.{DocumentData, ExtraData, arrangement, document_of, on_alone, outcome, reading_of}
 use Rattle.tn_file.specs.Json.{json_of}
 use Rattle.tn_file.proofs.DocumentLeads.{documents_are_networks}
+use Rattle.tn_file.proofs.ReadingLemmas.{networks_read, reading_as}
+use Rattle.tn_file.specs.Readings.{any_reading_of}
 use Rattle.tn_replay_laws.specs.Fits.{FitsClaim}
 use Rattle.tn_replay_laws.specs.Replayed.{IsReplayed, claimed_in, with_claim}
 use Rattle.tn_replay_laws.proofs.CheckedLemmas.{tests_replay, verdicts_replay}
@@ -63,12 +65,6 @@ replayed Solve top doc said claims read answer within = solutions_replay top doc
 replayed Support top doc said claims read answer within = supported top doc said within read doc.extra refl answer
 replayed Test top doc said claims read answer within = tested top doc said read answer
 
--- what bytes are read as, by their JSON value
-pub read_as : (command : Command) (bytes : List ℕ) (top : Data) → json_of bytes ≡ Some top
-    → reading_of command bytes ≡ document_of command top
-unfolding reading_of
-read_as command bytes top is = rw is
-
 -- a claim that is valid has no other decision
 only_valid : RefutedIsNotValid → (firms : List Firm) (trades : List Ends) (claim : Claim) → IsValid firms trades claim
     → (answer : Said) → DecidesClaim firms trades claim answer → answer ≡ Valid
@@ -80,12 +76,12 @@ only_valid refuted firms trades claim valid answer decides = absurd decides
 pub answers_replay : RefutedIsNotValid → AnswersReplay
 answers_replay refuted command bytes claimed top doc said claims is read answered within there names answer =
     let replays =
-    replayed command top doc said claims (sym (read_as command bytes top is) ∙ read) answered within in
+    replayed command top doc said claims (sym (reading_as command bytes top is) ∙ read) answered within in
     let reads : reading_of Replay claimed ≡ Ok (claimed_in doc replays.read) =
-    read_as Replay claimed (with_claim (answer_data doc.names said) top) there ∙ replays.reads in
+    reading_as Replay claimed (with_claim (answer_data doc.names said) top) there ∙ replays.reads in
     let is_document = documents_are_networks Replay claimed (claimed_in doc replays.read) reads in
     let implied = claim_implies doc.firms doc.ends replays.read is_document.network is_document.extra replays.valid in
-    subst (λ r. IsAnswerTo Replay r names answer ↔ ((answer ≡ Valid) × (names ≡ doc.names))) (sym reads) (
+    subst (λ r. IsAnswerTo Replay r names answer ↔ ((answer ≡ Valid) × (names ≡ doc.names))) (sym (networks_read Replay claimed (claimed_in doc replays.read) reads)) (
       λ to. (only_valid refuted doc.firms doc.ends replays.read replays.valid answer to.0, to.1),
       λ is_valid. (
         subst (DecidesClaim doc.firms doc.ends replays.read) (sym is_valid.0) (replays.valid, implied),

@@ -4,6 +4,7 @@ use Rattle.serde_json.specs.Data.{Data}
 use Rattle.tn_answer.specs.AnswerText.{answer_data}
 use Rattle.tn_file.specs.Document.{DocumentData, reading_of}
 use Rattle.tn_file.specs.Json.{json_of}
+use Rattle.tn_file.specs.Readings.{any_reading_of}
 use Rattle.tn_said.specs.declared.said.Said.{Said}
 use Rattle.tn_said.specs.declared.said.Said.TheVariants.{Valid}
 use Rattle.tn_names.specs.Names.{NameLists}
@@ -25,12 +26,12 @@ answers_claims Solve = true
 answers_claims Support = true
 answers_claims Test = true
 
--- to bytes that stand for a document with an answer to it as its claim, `replay` answers that the claim is valid, and
+-- to bytes that stand for a document of single trades with an answer to it as its claim, `replay` answers that the claim is valid, and
 -- nothing else, over the same names
 abbrev pub AnswersReplay : Type 0
 AnswersReplay = (command : Command) (bytes claimed : List ℕ) (top : Data) (doc : DocumentData) (said : Said)
     → answers_claims command ≡ true → json_of bytes ≡ Some top → reading_of command bytes ≡ Ok doc
     → IsAnswerOf command doc said → FitsClaim said → json_of claimed
     ≡ Some (with_claim (answer_data doc.names said) top)
-    → (names : NameLists) (answer : Said) → IsAnswerTo Replay (reading_of Replay claimed) names answer
+    → (names : NameLists) (answer : Said) → IsAnswerTo Replay (any_reading_of Replay claimed) names answer
     ↔ ((answer ≡ Valid) × (names ≡ doc.names))

@@ -6,7 +6,7 @@ use Rattle.tn_said.specs.declared.said.Said.TheVariants.{Usage, ReadFault, NoMem
 use Rattle.tn_answer.specs.declared.layout.Layout.{Layout}
 use Rattle.tn_io.specs.Source.{TakesFirst}
 use Rattle.tn_names.specs.Names.{NameLists}
-use Rattle.tn_file.specs.Document.{reading_of}
+use Rattle.tn_file.specs.Readings.{any_reading_of}
 use Rattle.tn_file.specs.declared.command.Command.{Command}
 use Rattle.tn_run.specs.Answer.{document_limit, IsAnswerTo, AnswersBytes, FindsTooLong, MayBeSaid}
 use Rattle.tn_run.specs.declared.request.Request.{Request}
@@ -31,7 +31,7 @@ all_answered command all new names said answers = elim answers [
     many = λ many. long.said_is;
   }
   | inr whole ↦ record {
-    few = λ few. subst (λ (bytes : List ℕ). IsAnswerTo command (reading_of command bytes) names said)
+    few = λ few. subst (λ (bytes : List ℕ). IsAnswerTo command (any_reading_of command bytes) names said)
         whole.told whole.answer;
     kept = λ few. whole.kept;
     many = λ many. let few = subst (λ (bytes : List ℕ). length bytes ≤ document_limit) whole.told whole.few in

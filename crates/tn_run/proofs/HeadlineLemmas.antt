@@ -1,7 +1,7 @@
 -- The headline, from what may be said.
 use Rattle.std.proofs.Common.{◌≡◌, ℕ, true, List, Ok, Err, refl, sym, true≢false, ◌⊎◌, inl, inr}
 use Rattle.std.specs.Prelude.{Option, Result}
-use Rattle.tn_file.specs.Document.{DocumentData, reading_of}
+use Rattle.tn_file.specs.Readings.{AnyDocument, network, units, any_reading_of}
 use Rattle.tn_read_head.specs.Beside.{Stop}
 use Rattle.tn_said.specs.declared.said.Said.{Said}
 use Rattle.tn_said.specs.declared.said.Said.TheVariants.{Usage, ReadFault, NoMemory}
@@ -16,16 +16,19 @@ use Rattle.tn_run.specs.Request.{IfDocument}
 use Rattle.tn_run.specs.Saying.{MaySay}
 
 -- what is promised of the document that the bytes stand for, or their first fault
-pub kept_or_shown : (command : Command) (bytes : List ℕ) (read : Result DocumentData Stop) (names : NameLists)
+pub kept_or_shown : (command : Command) (bytes : List ℕ) (read : Result AnyDocument Stop) (names : NameLists)
     (said : Said) → is_headlined command ≡ true
-    → reading_of command bytes ≡ read → IsAnswerTo command read names said → KeepsPromise command bytes said
+    → any_reading_of command bytes ≡ read → IsAnswerTo command read names said → KeepsPromise command bytes said
     ⊎ ShowsFault command bytes said
 kept_or_shown command bytes (Err stop) names said headlined reads answer =
     inr (record { stop = stop; reads = reads; said_is = answer.0 })
-kept_or_shown Solve bytes (Ok doc) names said headlined reads answer =
-    inl (record { doc = doc; reads = reads; promised = answer.0 })
-kept_or_shown Judge bytes (Ok doc) names said headlined reads answer =
-    inl (record { doc = doc; reads = reads; promised = answer.0 })
+kept_or_shown Solve bytes (Ok (network doc)) names said headlined reads answer =
+    inl (record { doc = network doc; reads = reads; promised = answer.0 })
+kept_or_shown Solve bytes (Ok (units doc)) names said headlined reads answer =
+    inl (record { doc = units doc; reads = reads; promised = answer.0 })
+kept_or_shown Judge bytes (Ok (network doc)) names said headlined reads answer =
+    inl (record { doc = network doc; reads = reads; promised = answer.0 })
+kept_or_shown Judge bytes (Ok (units doc)) names said headlined reads answer = absurd answer.0
 kept_or_shown Check bytes (Ok doc) names said headlined reads answer = absurd (true≢false (sym headlined))
 kept_or_shown Firms bytes (Ok doc) names said headlined reads answer = absurd (true≢false (sym headlined))
 kept_or_shown Range bytes (Ok doc) names said headlined reads answer = absurd (true≢false (sym headlined))
@@ -43,7 +46,7 @@ headline_of_bytes command old new before after names said headlined answers = el
     bytes = whole.bytes;
     taken = whole.taken;
     end = whole.end;
-    answer = kept_or_shown command whole.bytes (reading_of command whole.bytes) names said headlined refl
+    answer = kept_or_shown command whole.bytes (any_reading_of command whole.bytes) names said headlined refl
         whole.answer;
   })
 ]

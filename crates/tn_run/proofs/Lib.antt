@@ -3,6 +3,7 @@ pub mod TakenLemmas
 pub mod FitLemmas
 pub mod PartLemmas
 pub mod VerdictLemmas
+pub mod UnitLemmas
 pub mod NamedLemmas
 pub mod CompleteLemmas
 pub mod NumberLemmas

@@ -13,7 +13,7 @@ use Rattle.tn_names.specs.Names.{NameLists, no_names}
 use Rattle.tn_answer.specs.AnswerText.{answer_line}
 use Rattle.tn_answer.specs.Kept.{IsWithinClaims}
 use Rattle.tn_answer.specs.declared.layout.Layout.TheVariants.{Object}
-use Rattle.tn_file.specs.Document.{reading_of}
+use Rattle.tn_file.specs.Readings.{any_reading_of}
 use Rattle.tn_io.specs.Counts.{Rose}
 use Rattle.tn_io.specs.Lines.{TakesLines, TakesPart, most_turns}
 use Rattle.tn_io.specs.Sink.{Grows, GrowsByPrefix}
@@ -38,7 +38,7 @@ line_headline command entry headlined answer = elim answer [
   | inl none ↦ inr (inr none)
   | inr all ↦ elim (cases_lt document_limit (length entry.line)) [
     | inl many ↦ inr (inl (many, all.many many))
-    | inr few ↦ inl (kept_or_shown command entry.line (reading_of command entry.line) entry.names entry.said
+    | inr few ↦ inl (kept_or_shown command entry.line (any_reading_of command entry.line) entry.names entry.said
         headlined refl (all.few few))
   ]
 ]

@@ -19,15 +19,16 @@ use Rattle.tn_names.specs.Named.{IsNamed}
 use Rattle.tn_answer.specs.Kept.{HasAscendingTrades, IsWithinClaims}
 use Rattle.tn_answer.proofs.LawLemmas.{within_sayable}
 use Rattle.tn_file.specs.declared.command.Command.{Command}
-use Rattle.tn_file.specs.declared.document.Document.{Document}
-use Rattle.tn_file.specs.Document.{DocumentData, ExtraData, arrangement, on_alone, outcome, edits, claim, reading_of}
-use Rattle.tn_file.specs.Laws.{IsDocument, IsExtra}
+use Rattle.tn_file.specs.declared.document.ReadDocument.{ReadDocument}
+use Rattle.tn_file.specs.Document.{DocumentData, ExtraData, arrangement, on_alone, outcome, edits, claim}
+use Rattle.tn_file.specs.Readings.{AnyDocument, network, units, any_reading_of, names_in}
+use Rattle.tn_file.specs.Reads.{IsRead, any_view, read_for}
+use Rattle.tn_file.specs.Laws.{IsAnyDocument, IsDocument, IsExtra}
 use Rattle.tn_read_head.specs.declared.refusal.DocRefusal.{DocRefusal}
 use Rattle.tn_read_head.specs.Beside.{IsStop}
 use Rattle.tn_read_head.specs.Refused.{Reads}
-use Rattle.tn_file.specs.Refusal.{command_of, document_view}
-use Rattle.tn_file.proofs.DocumentStops.{faults_are_sayable}
-use Rattle.tn_run.specs.Answer.{ChecksExtra, SessionExtra, FirmsExtra, JudgesExtra, ReplaysExtra, SupportsExtra, IsAnswerOf, IsAnswerTo, KeepsRules}
+use Rattle.tn_file.proofs.ReadingLemmas.{faults_are_sayable}
+use Rattle.tn_run.specs.Answer.{ChecksExtra, SessionExtra, FirmsExtra, JudgesExtra, ReplaysExtra, SupportsExtra, IsAnswerOf, IsAnswerTo, IsAnyAnswerOf, KeepsRules}
 use Rattle.tn_price.proofs.CycleLemmas.{nodes_inside}
 use Rattle.tn_commands.specs.Session.{TellsStates}
 use Rattle.tn_commands.specs.Judge.{JudgesOutcome}
@@ -42,6 +43,7 @@ use Rattle.tn_commands.specs.Support.{SupportsSet}
 use Rattle.tn_raw_answers.specs.Firms.{TellsHoldings}
 use Rattle.tn_price.proofs.JudgeLemmas.{some_item}
 use Rattle.tn_raw_answers.specs.Test.{Tests}
+use Rattle.tn_run.proofs.UnitLemmas.{unit_kept}
 use Rattle.tn_run.proofs.OwnLemmas.{firm_named, bundle_named, bundle_ascends, failure_named, failure_ascends, set_named}
 use Rattle.tn_run.proofs.ReplayLemmas.{decided_named, decided_ascends}
 use Rattle.tn_file.specs.declared.command.Command.TheVariants.{Check, Firms, Judge, Range, Replay, Session, Solve, Support, Test}
@@ -373,39 +375,43 @@ document_kept command doc is said answer within = record {
   trade_names = is.trade_names;
 }
 
-module _ {E : Type 0} (command : Command) (doc : Document) (result : Result (Said × NameLists) E) where
-  -- what answers the command that the document was read for
-  for_command : command_of doc.content ≡ command
-      → IfOk result (λ told. IsAnswerOf (command_of doc.content) (document_view doc) told.0)
-      → IfOk result (λ told. IsAnswerOf command (document_view doc) told.0)
-  for_command same answer =
-      subst (λ (asked : Command). IfOk result (λ told. IsAnswerOf asked (document_view doc) told.0)) same answer
+-- so does an answer to a document of any version
+any_kept : (command : Command) (doc : AnyDocument) → IsAnyDocument command doc → (said : Said)
+    → IsAnyAnswerOf command doc said → IsWithinClaims said → KeepsRules (names_in doc) said
+any_kept command (network doc) is said answer within = document_kept command doc is said answer within
+any_kept command (units doc) is said answer within = unit_kept doc command is said answer within
 
-  pub kept_if_ok : IsDocument command (document_view doc) → command_of doc.content ≡ command
-      → IfOk result (λ told. IsAnswerOf (command_of doc.content) (document_view doc) told.0)
-      → IfOk result (λ told. told.1 ≡ (document_view doc).names) → IfOk result (λ told. IsWithinClaims told.0)
+module _ {E : Type 0} (command : Command) (doc : ReadDocument) (result : Result (Said × NameLists) E) where
+  -- what answers the command that the document was read for
+  for_command : read_for doc ≡ command → IfOk result (λ told. IsAnyAnswerOf (read_for doc) (any_view doc) told.0)
+      → IfOk result (λ told. IsAnyAnswerOf command (any_view doc) told.0)
+  for_command same answer =
+      subst (λ (asked : Command). IfOk result (λ told. IsAnyAnswerOf asked (any_view doc) told.0)) same answer
+
+  pub kept_if_ok : IsRead command doc → read_for doc ≡ command
+      → IfOk result (λ told. IsAnyAnswerOf (read_for doc) (any_view doc) told.0)
+      → IfOk result (λ told. told.1 ≡ names_in (any_view doc)) → IfOk result (λ told. IsWithinClaims told.0)
       → IfOk result (λ told. KeepsRules told.1 told.0)
   kept_if_ok is same answer named within = by_result result (for_command same answer) named within
     where
-      by_result : (r : Result (Said × NameLists) E) → IfOk r (λ told. IsAnswerOf command (document_view doc) told.0)
-          → IfOk r (λ told. told.1 ≡ (document_view doc).names) → IfOk r (λ told. IsWithinClaims told.0)
+      by_result : (r : Result (Said × NameLists) E) → IfOk r (λ told. IsAnyAnswerOf command (any_view doc) told.0)
+          → IfOk r (λ told. told.1 ≡ names_in (any_view doc)) → IfOk r (λ told. IsWithinClaims told.0)
           → IfOk r (λ told. KeepsRules told.1 told.0)
       by_result (Ok told) answer named within =
           subst (λ (names : NameLists). KeepsRules names told.0) (sym named)
-          (document_kept command (document_view doc) is told.0 answer within)
+          (any_kept command (any_view doc) is told.0 answer within)
       by_result (Err e) answer named within = tt
 
   -- it is the answer to the bytes that read so
-  pub answered_for : (bytes : List ℕ) → reading_of command bytes ≡ Ok (document_view doc)
-      → command_of doc.content ≡ command
-      → IfOk result (λ told. IsAnswerOf (command_of doc.content) (document_view doc) told.0)
-      → IfOk result (λ told. told.1 ≡ (document_view doc).names)
-      → IfOk result (λ told. IsAnswerTo command (reading_of command bytes) told.1 told.0)
+  pub answered_for : (bytes : List ℕ) → any_reading_of command bytes ≡ Ok (any_view doc) → read_for doc ≡ command
+      → IfOk result (λ told. IsAnyAnswerOf (read_for doc) (any_view doc) told.0)
+      → IfOk result (λ told. told.1 ≡ names_in (any_view doc))
+      → IfOk result (λ told. IsAnswerTo command (any_reading_of command bytes) told.1 told.0)
   answered_for bytes reads same answer named = by_result result (for_command same answer) named
     where
-      by_result : (r : Result (Said × NameLists) E) → IfOk r (λ told. IsAnswerOf command (document_view doc) told.0)
-          → IfOk r (λ told. told.1 ≡ (document_view doc).names)
-          → IfOk r (λ told. IsAnswerTo command (reading_of command bytes) told.1 told.0)
+      by_result : (r : Result (Said × NameLists) E) → IfOk r (λ told. IsAnyAnswerOf command (any_view doc) told.0)
+          → IfOk r (λ told. told.1 ≡ names_in (any_view doc))
+          → IfOk r (λ told. IsAnswerTo command (any_reading_of command bytes) told.1 told.0)
       by_result (Ok told) answer named = rw reads (answer, named)
       by_result (Err e) answer named = tt
 
@@ -424,8 +430,8 @@ stop_kept fault names stop = record {
 
 -- a refusal for a fault is a stop
 pub stop_read : (command : Command) (bytes : List ℕ) (refusal : DocRefusal) (fault : FaultIs) (names : NameLists)
-    → refusal ≡ DocRefusal.Fault fault names → Reads document_view (Err refusal) (reading_of command bytes)
+    → refusal ≡ DocRefusal.Fault fault names → Reads any_view (Err refusal) (any_reading_of command bytes)
     → IsStop (record { fault = fault; names = names })
 stop_read command bytes refusal fault names same reads =
     faults_are_sayable command bytes (record { fault = fault; names = names })
-    (subst (λ (e : DocRefusal). Reads document_view (Err e) (reading_of command bytes)) same reads)
+    (subst (λ (e : DocRefusal). Reads any_view (Err e) (any_reading_of command bytes)) same reads)

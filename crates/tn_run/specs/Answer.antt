@@ -1,12 +1,10 @@
 -- What the program may say of what it read.
 use Rattle.std.specs.Prelude.{◌≡◌, ◌≢◌, ℕ, ℤ, ◌+◌, ◌≤◌, ◌⊎◌, pos, List, [], length, Option, None, IfSome, Result, Ok, Err}
 use Rattle.std.specs.Io.KnownBytes.{Consumes, IsAtEnd}
-use Rattle.tn_base.specs.Firm.{Firm}
 use Rattle.tn_said.specs.declared.fault.FaultKind.TheVariants.{TooLong}
-use Rattle.tn_model.specs.declared.ends.Ends.{Ends}
 use Rattle.tn_said.specs.declared.said.Fault.{Fault as FaultIs}
 use Rattle.tn_said.specs.declared.said.Said.{Said}
-use Rattle.tn_said.specs.declared.said.Said.TheVariants.{Usage, ReadFault, NoMemory, Fault, Equilibrium}
+use Rattle.tn_said.specs.declared.said.Said.TheVariants.{Usage, ReadFault, NoMemory, Fault, Accepted, Equilibrium}
 use Rattle.tn_model.specs.Prices.{price_at}
 use Rattle.tn_commands.specs.Check.{ChecksArrangement}
 use Rattle.tn_io.specs.Counts.{Rose}
@@ -15,7 +13,8 @@ use Rattle.tn_answer.specs.Apart.{HasShortNumbers, IsNamedAnswer}
 use Rattle.tn_answer.specs.Kept.{HasAscendingTrades, IsWithinClaims}
 use Rattle.tn_names.specs.Names.{NameLists, IsNameList}
 use Rattle.tn_read_head.specs.Beside.{Stop}
-use Rattle.tn_file.specs.Document.{DocumentData, ExtraData, arrangement, on_alone, outcome, edits, claim, reading_of}
+use Rattle.tn_file.specs.Document.{DocumentData, ExtraData, arrangement, on_alone, outcome, edits, claim}
+use Rattle.tn_file.specs.Readings.{AnyDocument, network, units, any_reading_of, names_in}
 use Rattle.tn_file.specs.declared.command.Command.{Command}
 use Rattle.tn_file.specs.declared.command.Command.TheVariants.{Check, Firms, Judge, Range, Replay, Session, Solve, Support, Test}
 use Rattle.tn_commands.specs.Implied.{IsEfficientAndStable}
@@ -27,6 +26,8 @@ use Rattle.tn_commands.specs.Solve.{Solves}
 use Rattle.tn_commands.specs.Support.{SupportsSet}
 use Rattle.tn_raw_answers.specs.Firms.{TellsHoldings}
 use Rattle.tn_raw_answers.specs.Test.{Tests}
+use Rattle.tn_read_units.specs.Firms.{UnitDocument}
+use Rattle.tn_unit_answers.specs.Solve.{SolvesByCounts}
 
 -- how many bytes a document may have
 abbrev pub document_limit : ℕ
@@ -75,9 +76,20 @@ IsAnswerOf Solve doc said = Solves doc.firms doc.ends said
 IsAnswerOf Support doc said = SupportsExtra doc doc.extra said
 IsAnswerOf Test doc said = Tests doc.firms doc.ends said
 
+-- the defined answer of a command on a document whose trades have units; its firms are laminar, so they meet exchange
+abbrev pub IsUnitAnswerOf : Command → UnitDocument → Said → Type 0
+IsUnitAnswerOf Solve doc said = SolvesByCounts doc said
+IsUnitAnswerOf Test doc said = said ≡ Accepted
+IsUnitAnswerOf command doc said = ⊥
+
+-- the defined answer of a command on a document of any version
+abbrev pub IsAnyAnswerOf : Command → AnyDocument → Said → Type 0
+IsAnyAnswerOf command (network doc) said = IsAnswerOf command doc said
+IsAnyAnswerOf command (units doc) said = IsUnitAnswerOf command doc said
+
 -- the defined answer where the bytes read so, over the names that are read
-abbrev pub IsAnswerTo : Command → Result DocumentData Stop → NameLists → Said → Type 0
-IsAnswerTo command (Ok doc) names said = IsAnswerOf command doc said × (names ≡ doc.names)
+abbrev pub IsAnswerTo : Command → Result AnyDocument Stop → NameLists → Said → Type 0
+IsAnswerTo command (Ok doc) names said = IsAnyAnswerOf command doc said × (names ≡ names_in doc)
 IsAnswerTo command (Err stop) names said = (said ≡ Fault stop.fault) × (names ≡ stop.names)
 
 -- the answer speaks only of firms and trades that have a name, its numbers are short and within the limits of claims,
@@ -99,7 +111,7 @@ pub record AnswersWhole (command : Command) (old new : Option (List ℕ)) (names
   pub end : IsAtEnd new
   -- a source that tells its bytes told these
   pub told : IfSome old (λ all. bytes ≡ all)
-  pub answer : IsAnswerTo command (reading_of command bytes) names said
+  pub answer : IsAnswerTo command (any_reading_of command bytes) names said
   pub kept : KeepsRules names said
 
 -- that the document is too long

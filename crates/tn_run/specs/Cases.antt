@@ -4,7 +4,7 @@ use Rattle.std.specs.List.Sorted.{IsStrictlyIncreasing}
 use Rattle.tn_answer.specs.AnswerText.{answer_line}
 use Rattle.tn_cases.specs.Book.{cases_of_the_book}
 use Rattle.tn_cases.specs.Case.{CaseData}
-use Rattle.tn_file.specs.Document.{reading_of}
+use Rattle.tn_file.specs.Readings.{any_reading_of}
 use Rattle.tn_said.specs.declared.said.Said.{Said}
 use Rattle.tn_said.specs.declared.said.Said.TheVariants.{Usage, NoMemory, Cases}
 use Rattle.tn_names.specs.Names.{NameLists}
@@ -17,7 +17,7 @@ use Rattle.tn_file.specs.declared.command.Command.{Command}
 -- the defined answer of a command to a document; usage where it is none
 abbrev pub IsCaseAnswer : Option Command → List ℕ → NameLists → Said → Type 0
 IsCaseAnswer None document names said = said ≡ Usage
-IsCaseAnswer (Some command) document names said = IsAnswerTo command (reading_of command document) names said
+IsCaseAnswer (Some command) document names said = IsAnswerTo command (any_reading_of command document) names said
 
 -- the status and the text are those of a defined answer to the case's command on its document
 pub record IsAllowed (case : CaseData) (status : ℕ) (text : List ℕ) : Type 0 where

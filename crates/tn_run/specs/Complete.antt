@@ -4,7 +4,7 @@ use Rattle.tn_said.specs.declared.said.Said.{Said}
 use Rattle.tn_said.specs.declared.said.Said.TheVariants.{NoMemory}
 use Rattle.tn_io.specs.Counts.{Rose}
 use Rattle.tn_names.specs.Names.{NameLists}
-use Rattle.tn_file.specs.Document.{reading_of}
+use Rattle.tn_file.specs.Readings.{any_reading_of}
 use Rattle.tn_file.specs.declared.command.Command.{Command}
 use Rattle.tn_run.specs.Answer.{document_limit, too_long, IsAnswerTo, KeepsRules}
 use Rattle.tn_run.specs.declared.request.Request.{Request}
@@ -19,7 +19,7 @@ NoneCounted before after = Rose before after → ⊥
 
 -- the answer to all bytes of a source: the defined one for them, which keeps the rules, or that they are too long
 pub record IsAnswerToAll (command : Command) (all : List ℕ) (names : NameLists) (said : Said) : Type 0 where
-  pub few : length all ≤ document_limit → IsAnswerTo command (reading_of command all) names said
+  pub few : length all ≤ document_limit → IsAnswerTo command (any_reading_of command all) names said
   pub kept : length all ≤ document_limit → KeepsRules names said
   pub many : document_limit < length all → said ≡ too_long
 

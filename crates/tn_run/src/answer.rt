@@ -2,10 +2,12 @@
 
 ghost use Rattle.std.specs.Prelude.{◌≡◌, ◌≤◌, IfOk};
 ghost use Rattle.tn_answer.specs.Kept.{IsWithinClaims};
-ghost use Rattle.tn_file.specs.Document.{reading_of};
+ghost use Rattle.tn_file.specs.Readings.{any_reading_of, names_in};
+ghost use Rattle.tn_file.specs.Reads.{IsMade, IsRead, any_view, read_for};
 ghost use Rattle.tn_file.specs.Laws.{IsDocument};
+ghost use Rattle.tn_file.specs.Asked.{unit_asked_by};
 ghost use Rattle.tn_file.specs.Refusal.{IsMadeAsAccepted, command_of, document_view};
-ghost use Rattle.tn_run.specs.Answer.{IsAnswerOf, IsAnswerTo, KeepsRules, MayBeSaid, too_long};
+ghost use Rattle.tn_run.specs.Answer.{IsAnswerOf, IsAnswerTo, IsAnyAnswerOf, IsUnitAnswerOf, KeepsRules, MayBeSaid, too_long};
 
 use std::alloc::Global;
 use tn_answer::Names;
@@ -14,10 +16,14 @@ use tn_commands::{
     answer_check, answer_judge, answer_range, answer_replay, answer_session, answer_solve,
     answer_support,
 };
-use tn_file::{Asked, Command, Content, DocRefusal, Document, RawAsked, read_doc};
+use tn_file::{
+    Asked, Command, Content, DocRefusal, Document, RawAsked, ReadDocument, UnitAsked, read_doc,
+};
 use tn_io::{ReadStop, Source, read_all};
 use tn_raw_answers::{answer_firms, answer_replay_raw, answer_test};
+use tn_read_units::UnitDocument;
 use tn_said::{Fault, FaultKind, Place, Said};
+use tn_unit_answers::answer_unit_solve;
 
 /// How many bytes a document may have.
 pub(crate) const DOCUMENT_LIMIT: usize = 4_194_304;
@@ -48,7 +54,7 @@ fn answer_document(alloc: Global, doc: &Document) -> Result<Said, OutOfMemory>
 }
 
 /// The answer to what is asked about the network of a document, with the names of the document.
-fn answer_read(alloc: Global, doc: Document) -> Result<(Said, Names), OutOfMemory>
+fn answer_network(alloc: Global, doc: Document) -> Result<(Said, Names), OutOfMemory>
     requires document { IsDocument (command_of doc.content) (document_view doc) }
     requires made { IsMadeAsAccepted doc.content }
     ensures answer { IfOk result (λ told. IsAnswerOf (command_of doc.content) (document_view doc) told.0) }
@@ -60,6 +66,47 @@ fn answer_read(alloc: Global, doc: Document) -> Result<(Said, Names), OutOfMemor
     Ok((said?, names))
 }
 
+/// The answer to what is asked about a document whose trades have units.
+fn answer_units(alloc: Global, doc: &UnitDocument, asked: UnitAsked) -> Result<Said, OutOfMemory>
+    ensures answer { IfOk result (IsUnitAnswerOf (unit_asked_by asked) doc.now) }
+    ensures within { IfOk result IsWithinClaims }
+{
+    match asked {
+        UnitAsked::Solve => answer_unit_solve(alloc, doc),
+        // They are laminar.
+        UnitAsked::Test => Ok(Said::Accepted),
+    }
+}
+
+/// The answer to what is asked about a document whose trades have units, with the names of the document.
+fn answer_by_counts(
+    alloc: Global,
+    doc: UnitDocument,
+    asked: UnitAsked,
+) -> Result<(Said, Names), OutOfMemory>
+    ensures answer { IfOk result (λ told. IsUnitAnswerOf (unit_asked_by asked) doc told.0) }
+    ensures names { IfOk result (λ told. told.1 ≡ doc.head.names) }
+    ensures within { IfOk result (λ told. IsWithinClaims told.0) }
+{
+    let said = answer_units(alloc, &doc, asked);
+    let names = doc.into_names();
+    Ok((said?, names))
+}
+
+/// The answer to what is asked about a document, with its names.
+fn answer_read(alloc: Global, doc: ReadDocument) -> Result<(Said, Names), OutOfMemory>
+    requires document { IsRead (read_for doc) doc }
+    requires made { IsMade doc }
+    ensures answer { IfOk result (λ told. IsAnyAnswerOf (read_for doc) (any_view doc) told.0) }
+    ensures names { IfOk result (λ told. told.1 ≡ names_in (any_view doc)) }
+    ensures within { IfOk result (λ told. IsWithinClaims told.0) }
+{
+    match doc {
+        ReadDocument::Network(doc) => answer_network(alloc, doc),
+        ReadDocument::Units(doc, asked) => answer_by_counts(alloc, doc, asked),
+    }
+}
+
 /// The answer of a command to the bytes of a document, with the names that were read. It fails only where memory runs
 /// out.
 pub fn answer_bytes(
@@ -67,7 +114,7 @@ pub fn answer_bytes(
     command: Command,
     bytes: &[u8],
 ) -> Result<(Said, Names), OutOfMemory>
-    ensures answer { IfOk result (λ told. IsAnswerTo command (reading_of command bytes.now) told.1 told.0) }
+    ensures answer { IfOk result (λ told. IsAnswerTo command (any_reading_of command bytes.now) told.1 told.0) }
     ensures kept { IfOk result (λ told. KeepsRules told.1 told.0) }
     ensures within { IfOk result (λ told. IsWithinClaims told.0) }
 {

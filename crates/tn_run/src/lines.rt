@@ -3,7 +3,7 @@
 ghost use Rattle.std.specs.Prelude.{◌≡◌, ◌≤◌, ◌⊎◌, ℕ, List, ◌∷◌, [], IfOk, IfSome, IfNone, OnErr};
 ghost use Rattle.std.specs.Io.KnownBytes.{Consumes, IsAtEnd, prepend_known};
 ghost use Rattle.tn_answer.specs.Kept.{IsWithinClaims};
-ghost use Rattle.tn_file.specs.Document.{reading_of};
+ghost use Rattle.tn_file.specs.Readings.{any_reading_of};
 ghost use Rattle.tn_io.specs.Counts.{Rose};
 ghost use Rattle.tn_io.specs.Lines.{TakesLines, TakesPart};
 ghost use Rattle.tn_run.specs.Answer.{IsAnswerTo, KeepsRules};
@@ -22,7 +22,7 @@ use tn_said::Said;
 /// The answer of a command to the bytes of a line, or that memory ran out; with the names that were read.
 fn answer_line(alloc: Global, command: Command, line: &[u8]) -> (Said, Names)
     ensures answer { (result.0 ≡ Said.NoMemory)
-        ⊎ (IsAnswerTo command (reading_of command line.now) result.1 result.0 × KeepsRules result.1 result.0) }
+        ⊎ (IsAnswerTo command (any_reading_of command line.now) result.1 result.0 × KeepsRules result.1 result.0) }
     ensures within { IsWithinClaims result.0 }
 {
     match answer_bytes(alloc, command, line) {

@@ -8,7 +8,7 @@ use std::test::Fail;
 use tn_base::{Asked, Bundle, Side, Steps, TradeSet};
 use tn_commands::{decided, guess};
 use tn_drill::drill;
-use tn_file::{Command, Content, Document, read_doc};
+use tn_file::{Command, Content, ReadDocument, read_doc};
 use tn_firm::FirmValue;
 use tn_flow::Solver;
 use tn_guess::{Flow, Sketch};
@@ -154,10 +154,13 @@ fn agrees_on(alloc: Global, bytes: &[u8]) -> Result<bool, Fail> {
 }
 
 /// The same of a document that was read.
-fn agrees_in(alloc: Global, document: &Document) -> Result<bool, Fail> {
-    match &document.content {
-        Content::Market(market, _) if market.trades() <= 128 => agrees(alloc, market),
-        _ => Ok(false),
+fn agrees_in(alloc: Global, document: &ReadDocument) -> Result<bool, Fail> {
+    match document {
+        ReadDocument::Network(document) => match &document.content {
+            Content::Market(market, _) if market.trades() <= 128 => agrees(alloc, market),
+            _ => Ok(false),
+        },
+        ReadDocument::Units(..) => Ok(false),
     }
 }
 
@@ -204,10 +207,13 @@ fn taken_on(alloc: Global, bytes: &[u8]) -> Result<Option<[bool; 6]>, Fail> {
 }
 
 /// The same of a document that was read.
-fn taken_of(alloc: Global, document: &Document) -> Result<Option<[bool; 6]>, Fail> {
-    match &document.content {
-        Content::Market(market, _) if market.trades() <= 128 => Ok(Some(taken(alloc, market)?)),
-        _ => Ok(None),
+fn taken_of(alloc: Global, document: &ReadDocument) -> Result<Option<[bool; 6]>, Fail> {
+    match document {
+        ReadDocument::Network(document) => match &document.content {
+            Content::Market(market, _) if market.trades() <= 128 => Ok(Some(taken(alloc, market)?)),
+            _ => Ok(None),
+        },
+        ReadDocument::Units(..) => Ok(None),
     }
 }
 

@@ -8,3 +8,4 @@ pub(crate) mod faults;
 pub(crate) mod layouts;
 pub(crate) mod parts;
 pub(crate) mod runs;
+pub(crate) mod units;

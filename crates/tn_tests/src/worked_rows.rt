@@ -6,6 +6,7 @@ use crate::rows::faults::FAULTS;
 use crate::rows::layouts::LAYOUTS;
 use crate::rows::parts::PARTS;
 use crate::rows::runs::RUNS;
+use crate::rows::units::UNITS;
 use crate::runs::run_on;
 use std::alloc::Global;
 use std::test::Fail;
@@ -95,7 +96,7 @@ fn agrees(alloc: Global, row: &str) -> Result<bool, Fail> {
 
 #[test]
 fn worked_rows_agree(rt: HostRuntime) -> Result<(), Fail> {
-    for rows in [ANSWERS, CLAIMS, FAULTS, PARTS, LAYOUTS] {
+    for rows in [ANSWERS, CLAIMS, FAULTS, PARTS, LAYOUTS, UNITS] {
         for row in rows.split("\n\n") {
             assert!(rt; agrees(rt.alloc(), row)?, "{row}");
         }

@@ -1,14 +1,13 @@
 -- What shows the clauses of `answer_bytes` of `src/answer.rt`.
 use Rattle.std.proofs.Common.{subst, sym}
 use Rattle.tn_file.specs.declared.command.Command.{Command}
-use Rattle.tn_file.specs.Laws.{IsDocument}
-use Rattle.tn_file.specs.Refusal.{document_view}
+use Rattle.tn_file.specs.Reads.{IsRead}
 use Rattle.tn_run.proofs.NamedLemmas.{answered_for, kept_if_ok, stop_kept, stop_read}
 use Rattle.tn_run.proofs.answer.answer_bytes.Goals as goal
 
 pub answer_read-requires-clause-document : goal.answer_read-requires-clause-document
 answer_read-requires-clause-document c =
-    subst (λ (asked : Command). IsDocument asked (document_view c.in-Ok.doc)) (sym c.in-Ok.ensures.needed.0)
+    subst (λ (asked : Command). IsRead asked c.in-Ok.doc) (sym c.in-Ok.ensures.needed.0)
     c.in-Ok.ensures.network
 
 pub returns-in-Ok-clause-answer : goal.returns-in-Ok-clause-answer

@@ -2,7 +2,7 @@
 use Rattle.std.proofs.Common.{ap, rules, subst, sym, ◌∙◌}
 use Rattle.std.specs.Prelude.{IfOk}
 use Rattle.tn_file.specs.declared.asked.Asked.{Asked}
-use Rattle.tn_file.specs.declared.asked.Asked.TheVariants.{Check, Judge, Range, Replay, Session, Solve, Support}
+use Rattle.tn_file.specs.declared.asked.Asked.TheVariants.{Judge, Range, Replay, Session, Solve, Support}
 use Rattle.tn_file.specs.declared.asked.RawAsked.{RawAsked}
 use Rattle.tn_file.specs.declared.asked.RawAsked.TheVariants.{Replay as RawReplay, Test}
 use Rattle.tn_file.specs.declared.document.Content.{Content}
