@@ -20,7 +20,7 @@ use Rattle.tn_read_parts.specs.Lists.{first_without, named_prices, one_on, price
 use Rattle.tn_read_parts.proofs.ListLeads.{IsSetOf, one_on_leads}
 
 -- the first number without a price is one of those that were asked
-first_without_within : (named t n s : ℕ) → first_without named t n ≡ Some s → s < t + n
+pub first_without_within : (named t n s : ℕ) → first_without named t n ≡ Some s → s < t + n
 first_without_within named t zero s e = absurd (none-some s e)
 first_without_within named t (suc n) s e = by_test (has named t) e (first_without_within named (t + 1) n s)
   where
@@ -69,7 +69,7 @@ module _ (trades : List (List ℕ)) (few : length trades ≤ 16384) (place : Lis
         exactly = (λ there. absurd (true≢false (sym there)), λ same. absurd (cc));
       }
 
-  missing_stops : (found : Option ℕ) → ((t : ℕ) → found ≡ Some t → t < length trades)
+  pub missing_stops : (found : Option ℕ) → ((t : ℕ) → found ≡ Some t → t < length trades)
       → Stops (IsTold trades) (unless_missing place found)
   missing_stops None known = stops_ok (IsTold trades) tt
   missing_stops (Some t) known =

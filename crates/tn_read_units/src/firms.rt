@@ -200,6 +200,14 @@ impl UnitDocument {
         self.head.names()
     }
 
+    /// The names and the trades.
+    pub fn head(&self) -> &UnitHead
+        ensures is { result.now ≡ self.now.head }
+        ensures kept { IsUnitDocument self.now }
+    {
+        &self.head
+    }
+
     /// The names alone.
     pub fn into_names(self) -> Names
         ensures { result ≡ self.head.names }
