@@ -12,13 +12,18 @@ mod place;
 mod reason;
 mod said;
 mod session;
+mod units;
 
 pub use claim::{FirmClaim, MarketClaim};
 pub use fault::FaultKind;
 pub use holding::Holding;
-pub use lists::{Counts, Edits, Holdings, Numbers, Parts, Place, States};
+pub use lists::{
+    Counts, Edits, Holdings, Numbers, Parts, Place, States, UnitBundle, UnitHoldings, UnitRanges,
+    UnitSteps,
+};
 pub use part::Part;
 pub use place::{PlaceStep, Word};
 pub use reason::Reason;
 pub use said::{Fault, Page, Said, Shown, Topic};
 pub use session::{Edit, State};
+pub use units::{TradeUnits, UnitHolding, UnitRange, UnitStep};

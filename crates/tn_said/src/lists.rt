@@ -4,6 +4,7 @@ use crate::holding::Holding;
 use crate::part::Part;
 use crate::place::PlaceStep;
 use crate::session::{Edit, State};
+use crate::units::{TradeUnits, UnitHolding, UnitRange, UnitStep};
 use tn_model::{Lent, Listed};
 
 /// The way from the top of a document to a value in it.
@@ -14,6 +15,10 @@ pub type Parts = Listed<Part>;
 pub type Numbers = Listed<u32>;
 /// How many units of each trade go, by trade number: 0 where none does.
 pub type Counts = Listed<u32>;
+/// A bundle of trades with units: each of its trades, ascending, with how many units of it.
+pub type UnitBundle = Listed<TradeUnits>;
+/// Nodes of an exchange graph of trades with units: a step, or none for the null node.
+pub type UnitSteps = Listed<Option<UnitStep>>;
 
 /// What each firm has in an arrangement, by firm number.
 pub type Holdings = Lent<Holding>;
@@ -21,3 +26,7 @@ pub type Holdings = Lent<Holding>;
 pub type Edits = Lent<Edit>;
 /// An equilibrium after each of some changes, in order.
 pub type States = Lent<State>;
+/// What each firm has in an arrangement of counts, by firm number.
+pub type UnitHoldings = Lent<UnitHolding>;
+/// What the prices of each trade with units may be, by trade number.
+pub type UnitRanges = Lent<UnitRange>;

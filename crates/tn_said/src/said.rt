@@ -1,7 +1,9 @@
 //! What the program may say.
 
 use crate::fault::FaultKind;
-use crate::lists::{Counts, Holdings, Numbers, Place, States};
+use crate::lists::{
+    Counts, Holdings, Numbers, Place, States, UnitBundle, UnitHoldings, UnitRanges, UnitSteps,
+};
 use crate::reason::Reason;
 use tn_model::{Contracts, Nodes, Prices, Ranges, TradeEnds, Trades};
 
@@ -79,6 +81,15 @@ pub enum Said {
         /// What the firm's utility gains by it.
         gain: i128,
     },
+    /// The firm's bundle of trades with units is possible and not best.
+    BetterByCounts {
+        /// The first firm that fails.
+        firm: u32,
+        /// A best bundle of the firm, ascending by trade.
+        bundle: UnitBundle,
+        /// What the firm's utility gains by it.
+        gain: i128,
+    },
     /// The firm's bundle is impossible.
     Impossible {
         /// The first firm that fails.
@@ -106,10 +117,26 @@ pub enum Said {
         /// The ends of each trade, by trade number.
         ends: TradeEnds,
     },
+    /// With these prices the counts of trades with units are an equilibrium.
+    SupportedByCounts {
+        /// How many units of each trade go, by trade number.
+        counts: Counts,
+        /// The price of each unit of a trade, by trade number.
+        prices: Prices,
+        /// The ends of each trade, by trade number.
+        ends: TradeEnds,
+    },
     /// No prices support the set of trades, since this cycle of its exchange graph is negative.
     Cycle {
         /// Its nodes, in order.
         nodes: Nodes,
+        /// The sum of its arcs' costs, below 0.
+        cost: i128,
+    },
+    /// No prices support the counts, since this cycle of their exchange graph is negative.
+    CycleByCounts {
+        /// Its nodes, in order.
+        nodes: UnitSteps,
         /// The sum of its arcs' costs, below 0.
         cost: i128,
     },
@@ -152,6 +179,15 @@ pub enum Said {
         on: Trades,
         /// The prices that each trade may have over all equilibria, by trade number.
         ranges: Ranges,
+        /// The ends of each trade, by trade number.
+        ends: TradeEnds,
+    },
+    /// How far each price of trades with units may move.
+    RangesByCounts {
+        /// How many units of each trade go in an efficient way, by trade number.
+        counts: Counts,
+        /// The prices that each unit of a trade may have over all equilibria, by trade number.
+        ranges: UnitRanges,
         /// The ends of each trade, by trade number.
         ends: TradeEnds,
     },
@@ -204,6 +240,15 @@ pub enum Said {
         content: u32,
         /// What each firm has, by firm number.
         firms: Holdings,
+        /// The sum of the firms' worths, none where the bundle of one is impossible.
+        surplus: Option<i128>,
+    },
+    /// What each firm has in an arrangement of counts, and which bundle it would rather have.
+    FirmsByCounts {
+        /// How many firms are content: each of them has a best bundle.
+        content: u32,
+        /// What each firm has, by firm number.
+        firms: UnitHoldings,
         /// The sum of the firms' worths, none where the bundle of one is impossible.
         surplus: Option<i128>,
     },
