@@ -1,10 +1,9 @@
 -- Answers over the same names whose data are equal are written alike.
-use Rattle.std.proofs.Common.{if◌then◌else◌, ◌==◌, ◌*◌, ◌≡◌, false, ℕ, suc, ℤ, ◌+◌, List, [], ◌∷◌, get_or, Option, None, Some, is_some, true≢false, find, All, IfSome, codes, bytes_eq, refl, sym, ap, ◌∙◌, arith}
+use Rattle.std.proofs.Common.{if◌then◌else◌, ◌==◌, ◌*◌, ◌≡◌, false, ℕ, ℤ, ◌+◌, List, [], ◌∷◌, get_or, Option, None, Some, is_some, true≢false, find, All, IfSome, codes, bytes_eq, refl, sym, ap, ◌∙◌, arith}
 use Rattle.std.proofs.lemmas.List.Elements.{All-head, All-tail}
 use Rattle.std.proofs.lemmas.Option.{same_Some}
 use Rattle.std.specs.List.{AllZip}
-use Rattle.serde_json.specs.Data.{Data, array, member, no_members}
-use Rattle.serde_json.specs.View.{items_of}
+use Rattle.serde_json.specs.Data.{Data, member, no_members}
 use Rattle.serde_json.specs.Events.{items_len}
 use Rattle.serde_json.specs.Find.{at, get}
 use Rattle.tn_said.specs.declared.fault.FaultKind.{FaultKind}
@@ -19,26 +18,29 @@ use Rattle.tn_said.specs.declared.reason.Reason.{Reason}
 use Rattle.tn_said.specs.declared.reason.Reason.TheVariants.{Impossible as ImpossibleIs, Better as BetterIs, Possible, Surplus as SurplusIs, Gain as GainIs, Exchange, Holds, Arc, Cost as CostIs, Contract as ContractIs, Over as OverIs, Price, Empty, Signed, Choice, Shares, Balance, Whole}
 use Rattle.tn_said.specs.declared.said.Fault.{Fault}
 use Rattle.tn_said.specs.declared.said.Shown.{Shown}
-use Rattle.tn_model.specs.declared.contract.Contract.{Contract}
+use Rattle.tn_model.specs.declared.ends.Ends.{Ends}
 use Rattle.tn_said.specs.declared.holding.Holding.{Holding}
+use Rattle.tn_said.specs.declared.units.TradeUnits.{TradeUnits}
+use Rattle.tn_said.specs.declared.units.UnitStep.{UnitStep}
+use Rattle.tn_said.specs.declared.units.UnitHolding.{UnitHolding}
+use Rattle.tn_said.specs.declared.units.UnitRange.{UnitRange}
 use Rattle.tn_model.specs.declared.range.Range.{Range}
-use Rattle.tn_said.specs.declared.session.State.{State}
 use Rattle.tn_said.specs.declared.said.Page.{Page}
 use Rattle.tn_said.specs.declared.said.Page.TheVariants.{Help, Version as VersionPage, About}
 use Rattle.tn_said.specs.declared.said.Topic.TheVariants.{Check as CheckTopic, Firms as FirmsTopic, Test as TestTopic, Support as SupportTopic, Solve as SolveTopic, Range as RangeTopic, Session as SessionTopic, Judge as JudgeTopic, Replay as ReplayTopic, Drill as DrillTopic, Cases as CasesTopic}
 use Rattle.tn_said.specs.declared.said.Said.{Said}
-use Rattle.tn_said.specs.declared.said.Said.TheVariants.{Usage, ReadFault, NoMemory, Fault as FaultIs, Equilibrium, Better, Impossible, Accepted, ExchangeFails, Supported, Cycle, Solved, SolvedByCounts, Drill, Ranges, Session, Drops, Completes, Blocks, Valid, Invalid, Cases, Page as PageIs, Firms as FirmsIs}
+use Rattle.tn_said.specs.declared.said.Said.TheVariants.{Usage, ReadFault, NoMemory, Fault as FaultIs, Equilibrium, Better, BetterByCounts, Impossible, Accepted, ExchangeFails, Supported, SupportedByCounts, Cycle, CycleByCounts, Solved, SolvedByCounts, Drill, Ranges, RangesByCounts, Session, Drops, Completes, Blocks, Valid, Invalid, Cases, Page as PageIs, Firms as FirmsIs, FirmsByCounts}
 use Rattle.tn_names.specs.Names.{NameLists, IsNameList}
 use Rattle.tn_said.specs.Words.{word_text}
 use Rattle.tn_names.specs.Named.{IsNamed, IsNamedStep, IsNamedTriple}
 use Rattle.tn_answer.specs.Pages.{lines_text, page_lines}
-use Rattle.tn_answer.specs.Rows.{each_from}
-use Rattle.tn_answer.specs.AnswerText.{counts_data, prices_data, contracts_data, holding_data, range_data, state_data, states_data, nodes_data, step_data, place_data, fault_data, answer_form, form_text, answer, answer_data}
-use Rattle.tn_answer.specs.Values.{bound_data, name_data, names_data, option_data, integer_data, numbers_data}
+use Rattle.tn_answer.specs.AnswerText.{counts_data, prices_data, step_data, place_data, fault_data, answer_form, form_text, answer, answer_data}
+use Rattle.tn_answer.specs.Values.{name_data, names_data, integer_data, numbers_data}
 use Rattle.tn_answer.specs.ReasonText.{reason_members, IsNamedReason}
-use Rattle.tn_answer.specs.Apart.{HasNamedPaths, HasShortNumbers, IsNamedAnswer, IsNamedHolding, IsNamedState, IsSameFault, IsSameObject, IsSameStep}
-use Rattle.tn_answer.proofs.DataParts.{first_in, items_in, name_there, natural_in, nothing_goes, part, rest_in, same_counts, same_integer, same_name, same_prices, shape, text_in}
+use Rattle.tn_answer.specs.Apart.{HasShortNumbers, IsNamedAnswer, IsSameByCounts, IsSameFault, IsSameObject, IsSameStep}
+use Rattle.tn_answer.proofs.DataParts.{first_in, items_in, name_there, natural_in, nothing_goes, part, rest_in, same_bound, same_counts, same_integer, same_name, same_prices, shape, text_in}
 use Rattle.tn_answer.proofs.DataTexts.{clash}
+use Rattle.tn_answer.proofs.MembersApart.{bundle_alike, holdings_alike, ranges_alike, same_contracts, same_holdings, same_names, same_nodes, same_option, same_ranges, same_states, same_steps, same_unit_holdings, same_unit_ranges, same_entries, steps_alike}
 
 -- ---- words
 
@@ -76,95 +78,6 @@ same_word first second e = same_Some first second (sym (word_back first) ∙ ap 
 -- ---- names
 
 module _ (names : List (List ℕ)) (kept : IsNameList names) where
-  same_names : (xs ys : List ℕ) → All (IsNamed names) xs → All (IsNamed names) ys
-      → names_data names xs ≡ names_data names ys → xs ≡ ys
-  same_names [] [] h k e = refl
-  same_names [] (y ∷ ys) h k e = absurd (omega (arith, ap (λ d. items_len (items_in d)) e))
-  same_names (x ∷ xs) [] h k e = absurd (omega (arith, ap (λ d. items_len (items_in d)) e))
-  same_names (x ∷ xs) (y ∷ ys) h k e =
-      let first = same_name names kept x y (All-head (IsNamed names) x xs h) (All-head (IsNamed names) y ys k) (ap first_in e) in
-      let rest = same_names xs ys (All-tail (IsNamed names) x xs h) (All-tail (IsNamed names) y ys k) (ap rest_in e) in
-      λ i. first i ∷ rest i
-
-  same_option : (first second : Option ℕ) → IfSome first (IsNamed names) → IfSome second (IsNamed names)
-      → option_data names first ≡ option_data names second → first ≡ second
-  same_option None None h k e = refl
-  same_option None (Some y) h k e = absurd (clash 0 3 refl (ap shape e))
-  same_option (Some x) None h k e = absurd (clash 3 0 refl (ap shape e))
-  same_option (Some x) (Some y) h k e = ap Some (same_name names kept x y h k e)
-
-  same_nodes : (xs ys : List (Option ℕ)) → All (λ node. IfSome node (IsNamed names)) xs
-      → All (λ node. IfSome node (IsNamed names)) ys → nodes_data names xs ≡ nodes_data names ys → xs ≡ ys
-  same_nodes [] [] h k e = refl
-  same_nodes [] (y ∷ ys) h k e = absurd (omega (arith, ap (λ d. items_len (items_in d)) e))
-  same_nodes (x ∷ xs) [] h k e = absurd (omega (arith, ap (λ d. items_len (items_in d)) e))
-  same_nodes (x ∷ xs) (y ∷ ys) h k e =
-      let named = λ (node : Option ℕ). IfSome node (IsNamed names) in
-      let first = same_option x y (All-head named x xs h) (All-head named y ys k) (ap first_in e) in
-      let rest = same_nodes xs ys (All-tail named x xs h) (All-tail named y ys k) (ap rest_in e) in
-      λ i. first i ∷ rest i
-
-  same_contracts : (xs ys : List Contract) → All (λ contract. IsNamed names contract.trade) xs
-      → All (λ contract. IsNamed names contract.trade) ys → contracts_data names xs ≡ contracts_data names ys → xs ≡ ys
-  same_contracts [] [] h k e = refl
-  same_contracts [] (y ∷ ys) h k e = absurd (omega (arith, ap (λ d. items_len (items_in d)) e))
-  same_contracts (x ∷ xs) [] h k e = absurd (omega (arith, ap (λ d. items_len (items_in d)) e))
-  same_contracts (x ∷ xs) (y ∷ ys) h k e =
-      let named = λ (contract : Contract). IsNamed names contract.trade in
-      let trade = same_name names kept x.trade y.trade (All-head named x xs h) (All-head named y ys k)
-      (ap (λ d. first_in (first_in d)) e) in
-      let price = same_integer x.price y.price (ap (λ d. first_in (rest_in (first_in d))) e) in
-      let rest = same_contracts xs ys (All-tail named x xs h) (All-tail named y ys k) (ap rest_in e) in
-      λ i. record { trade = trade i; price = price i } ∷ rest i
-
-  same_bound : (first second : Option ℤ) → bound_data first ≡ bound_data second → first ≡ second
-  same_bound None None e = refl
-  same_bound None (Some y) e = absurd (clash 0 2 refl (ap shape e))
-  same_bound (Some x) None e = absurd (clash 2 0 refl (ap shape e))
-  same_bound (Some x) (Some y) e = ap Some (same_integer x y e)
-
-  same_range : (k : ℕ) (x y : Range) → HasNamedPaths names x → HasNamedPaths names y
-      → range_data names k x ≡ range_data names k y → x ≡ y
-  same_range k x y h i e =
-      let high = same_bound x.high y.high (ap (part (codes "high")) e) in
-      let high_path = same_nodes x.high_path y.high_path h.high i.high (ap (part (codes "high_path")) e) in
-      let low = same_bound x.low y.low (ap (part (codes "low")) e) in
-      let low_path = same_nodes x.low_path y.low_path h.low i.low (ap (part (codes "low_path")) e) in
-      λ j. record { low = low j; low_path = low_path j; high = high j; high_path = high_path j }
-
-  same_ranges : (k : ℕ) (xs ys : List Range) → All (HasNamedPaths names) xs → All (HasNamedPaths names) ys
-      → array (items_of (each_from (range_data names) k xs)) ≡ array (items_of (each_from (range_data names) k ys))
-      → xs ≡ ys
-  same_ranges k [] [] h i e = refl
-  same_ranges k [] (y ∷ ys) h i e = absurd (omega (arith, ap (λ d. items_len (items_in d)) e))
-  same_ranges k (x ∷ xs) [] h i e = absurd (omega (arith, ap (λ d. items_len (items_in d)) e))
-  same_ranges k (x ∷ xs) (y ∷ ys) h i e =
-      let first = same_range k x y (All-head (HasNamedPaths names) x xs h) (All-head (HasNamedPaths names) y ys i)
-      (ap first_in e) in
-      let rest = same_ranges (suc k) xs ys (All-tail (HasNamedPaths names) x xs h)
-      (All-tail (HasNamedPaths names) y ys i) (ap rest_in e) in
-      λ j. first j ∷ rest j
-
-  same_state : (x y : State) → IsNamedState names x → IsNamedState names y → state_data names x ≡ state_data names y
-      → x ≡ y
-  same_state x y h k e =
-      let on = same_names x.on y.on h.on k.on (ap (part (codes "on")) e) in
-      let prices = same_contracts x.prices y.prices h.prices k.prices (ap (part (codes "prices")) e) in
-      let surplus = same_integer x.surplus y.surplus (ap (part (codes "surplus")) e) in
-      λ j. record { on = on j; prices = prices j; surplus = surplus j }
-
-  same_states : (xs ys : List State) → All (IsNamedState names) xs → All (IsNamedState names) ys
-      → states_data names xs ≡ states_data names ys → xs ≡ ys
-  same_states [] [] h k e = refl
-  same_states [] (y ∷ ys) h k e = absurd (omega (arith, ap (λ d. items_len (items_in d)) e))
-  same_states (x ∷ xs) [] h k e = absurd (omega (arith, ap (λ d. items_len (items_in d)) e))
-  same_states (x ∷ xs) (y ∷ ys) h k e =
-      let first = same_state x y (All-head (IsNamedState names) x xs h) (All-head (IsNamedState names) y ys k)
-      (ap first_in e) in
-      let rest = same_states xs ys (All-tail (IsNamedState names) x xs h) (All-tail (IsNamedState names) y ys k)
-      (ap rest_in e) in
-      λ j. first j ∷ rest j
-
   same_step : (first second : PlaceStep) → IsNamedStep names first → IsNamedStep names second
       → step_data names first ≡ step_data names second → IsSameStep names first second
   same_step (Key v) (Key w) h k e = ap Key (same_word v w (ap text_in e))
@@ -205,9 +118,9 @@ module _ (names : List (List ℕ)) (kept : IsNameList names) where
   same_fault first second (Some shown) None is_first is_second h k m n e =
       absurd (shown_is_not second first shown (sym e))
   same_fault first second (Some shown) (Some other) is_first is_second h k m n e =
-      let at = same_option shown.at other.at m.at n.at (ap (part (codes "at")) e) in
-      let x = same_names shown.x other.x m.x n.x (ap (part (codes "x")) e) in
-      let y = same_names shown.y other.y m.y n.y (ap (part (codes "y")) e) in
+      let at = same_option names kept shown.at other.at m.at n.at (ap (part (codes "at")) e) in
+      let x = same_names names kept shown.x other.x m.x n.x (ap (part (codes "x")) e) in
+      let y = same_names names kept shown.y other.y m.y n.y (ap (part (codes "y")) e) in
       let triple : shown ≡ other = λ i. record { x = x i; y = y i; at = at i } in
       record {
         kind = same_kind first.kind second.kind (ap (λ d. natural_in (part (codes "fault") d)) e);
@@ -281,15 +194,19 @@ answer_text NoMemory = codes "no_memory"
 answer_text (FaultIs fault) = codes "fault"
 answer_text (Equilibrium surplus) = codes "equilibrium"
 answer_text (Better firm bundle gain) = codes "better"
+answer_text (BetterByCounts firm bundle gain) = codes "better"
 answer_text (Impossible firm) = codes "impossible"
 answer_text Accepted = codes "accepted"
 answer_text (ExchangeFails firm x y at) = codes "exchange_fails"
 answer_text (Supported on prices ends) = codes "prices"
+answer_text (SupportedByCounts counts prices ends) = codes "prices"
 answer_text (Cycle nodes cost) = codes "cycle"
+answer_text (CycleByCounts nodes cost) = codes "cycle"
 answer_text (Solved on prices surplus ends) = codes "solved"
 answer_text (SolvedByCounts counts prices surplus ends) = codes "solved"
 answer_text (Drill size start firms surplus) = codes "drill"
 answer_text (Ranges on ranges ends) = codes "ranges"
+answer_text (RangesByCounts counts ranges ends) = codes "ranges"
 answer_text (Session edits) = codes "session"
 answer_text (Drops firm keeps gain over) = codes "drops"
 answer_text (Completes prices over) = codes "completes"
@@ -299,6 +216,7 @@ answer_text (Invalid reason) = codes "invalid"
 answer_text (Cases count failed) = codes "cases"
 answer_text (PageIs page) = []
 answer_text (FirmsIs content firms surplus) = codes "firms"
+answer_text (FirmsByCounts content firms surplus) = codes "firms"
 
 -- the first three bytes tell these texts apart
 abbrev mark : List ℕ → ℕ
@@ -317,15 +235,19 @@ answer_says names NoMemory = refl
 answer_says names (FaultIs fault) = fault_says names.trades fault fault.shown
 answer_says names (Equilibrium surplus) = refl
 answer_says names (Better firm bundle gain) = refl
+answer_says names (BetterByCounts firm bundle gain) = refl
 answer_says names (Impossible firm) = refl
 answer_says names Accepted = refl
 answer_says names (ExchangeFails firm x y at) = refl
 answer_says names (Supported on prices ends) = refl
+answer_says names (SupportedByCounts counts prices ends) = refl
 answer_says names (Cycle nodes cost) = refl
+answer_says names (CycleByCounts nodes cost) = refl
 answer_says names (Solved on prices surplus ends) = refl
 answer_says names (SolvedByCounts counts prices surplus ends) = refl
 answer_says names (Drill size start firms surplus) = refl
 answer_says names (Ranges on ranges ends) = refl
+answer_says names (RangesByCounts counts ranges ends) = refl
 answer_says names (Session edits) = refl
 answer_says names (Drops firm keeps gain over) = refl
 answer_says names (Completes prices over) = refl
@@ -335,6 +257,7 @@ answer_says names (Invalid reason) = refl
 answer_says names (Cases count failed) = refl
 answer_says names (PageIs page) = refl
 answer_says names (FirmsIs content firms surplus) = refl
+answer_says names (FirmsByCounts content firms surplus) = refl
 
 same_numbers : (xs ys : List ℕ) → numbers_data xs ≡ numbers_data ys → xs ≡ ys
 same_numbers [] [] e = refl
@@ -412,7 +335,7 @@ module _ (names : NameLists) (firms : IsNameList names.firms) (trades : IsNameLi
       ap SurplusIs (same_integer surplus other (ap (part (codes "surplus")) e))
   same_reason (GainIs firm gain) (GainIs other gain') h k e =
       let firm_is = same_firm firm other h k (GainIs firm gain) (GainIs other gain') e refl refl in
-      let gain_is = same_bound names.trades trades gain gain' (ap (part (codes "gain")) e) in
+      let gain_is = same_bound gain gain' (ap (part (codes "gain")) e) in
       λ i. GainIs (firm_is i) (gain_is i)
   same_reason (Exchange firm x y at) (Exchange other x' y' at') h k e =
       let firm_is = same_firm firm other h.0 k.0 (Exchange firm x y at) (Exchange other x' y' at') e refl refl in
@@ -446,40 +369,6 @@ module _ (names : NameLists) (firms : IsNameList names.firms) (trades : IsNameLi
   same_reason first second h k e =
       absurd (reason_differs first second refl e)
 
--- what firms have
-module _ (names : NameLists) (trades : IsNameList names.trades) where
-  same_holding : (k : ℕ) (x y : Holding) → IsNamedHolding names.trades x → IsNamedHolding names.trades y
-      → holding_data names k x ≡ holding_data names k y → x ≡ y
-  same_holding k x y h i e =
-      let best = same_names names.trades trades x.best y.best h.best i.best (ap (part (codes "best")) e) in
-      let best_utility = same_integer x.best_utility y.best_utility (ap (part (codes "best_utility")) e) in
-      let gain = same_bound names.trades trades x.gain y.gain (ap (part (codes "gain")) e) in
-      let has = same_names names.trades trades x.has y.has h.has i.has (ap (part (codes "has")) e) in
-      let utility = same_bound names.trades trades x.utility y.utility (ap (part (codes "utility")) e) in
-      let worth = same_bound names.trades trades x.worth y.worth (ap (part (codes "worth")) e) in
-      λ j. record {
-        has = has j;
-        worth = worth j;
-        utility = utility j;
-        best = best j;
-        best_utility =
-            best_utility j;
-        gain = gain j;
-      }
-
-  same_holdings : (k : ℕ) (xs ys : List Holding) → All (IsNamedHolding names.trades) xs
-      → All (IsNamedHolding names.trades) ys
-      → array (items_of (each_from (holding_data names) k xs)) ≡ array (items_of (each_from (holding_data names) k ys))
-      → xs ≡ ys
-  same_holdings k [] [] h i e = refl
-  same_holdings k [] (y ∷ ys) h i e = absurd (omega (arith, ap (λ d. items_len (items_in d)) e))
-  same_holdings k (x ∷ xs) [] h i e = absurd (omega (arith, ap (λ d. items_len (items_in d)) e))
-  same_holdings k (x ∷ xs) (y ∷ ys) h i e =
-      let named = IsNamedHolding names.trades in
-      let first = same_holding k x y (All-head named x xs h) (All-head named y ys i) (ap first_in e) in
-      let rest = same_holdings (suc k) xs ys (All-tail named x xs h) (All-tail named y ys i) (ap rest_in e) in
-      λ j. first j ∷ rest j
-
 abbrev solved_data : NameLists → Data → List ℤ → ℤ → Data
 solved_data names on prices surplus =
     answer (codes "solved") (member (codes "on") on (member (codes "prices") (prices_data names.trades prices)
@@ -505,6 +394,56 @@ module _ (names : NameLists) (firms : IsNameList names.firms) (trades : IsNameLi
     same_integer surplus surplus' (ap (part (codes "surplus")) e),
   )
 
+  -- an answer by trades beside one by counts
+  better_alike : (firm : ℕ) (bundle : List ℕ) (gain : ℤ) (other : ℕ) (bundle' : List TradeUnits) (gain' : ℤ)
+      → IsNamedAnswer names (Better firm bundle gain) → IsNamedAnswer names (BetterByCounts other bundle' gain')
+      → answer_data names (Better firm bundle gain) ≡ answer_data names (BetterByCounts other bundle' gain')
+      → IsSameByCounts (Better firm bundle gain) (BetterByCounts other bundle' gain')
+  better_alike firm bundle gain other bundle' gain' h k e = (
+    same_name names.firms firms firm other h.0 k.0 (ap (part (codes "firm")) e),
+    bundle_alike names.trades bundle bundle' h.1 k.1 (ap (part (codes "bundle")) e),
+    same_integer gain gain' (ap (part (codes "gain")) e),
+  )
+
+  cycle_alike : (nodes : List (Option ℕ)) (cost : ℤ) (steps : List (Option UnitStep)) (cost' : ℤ)
+      → IsNamedAnswer names (Cycle nodes cost) → IsNamedAnswer names (CycleByCounts steps cost')
+      → answer_data names (Cycle nodes cost) ≡ answer_data names (CycleByCounts steps cost')
+      → IsSameByCounts (Cycle nodes cost) (CycleByCounts steps cost')
+  cycle_alike nodes cost steps cost' h k e = (
+    steps_alike names.trades nodes steps h k (ap (part (codes "nodes")) e),
+    same_integer cost cost' (ap (part (codes "cost")) e),
+  )
+
+  solved_alike : (on : List ℕ) (prices : List ℤ) (surplus : ℤ) (ends : List Ends) (counts : List ℕ) (prices' : List ℤ)
+      (surplus' : ℤ) (ends' : List Ends)
+      → answer_data names (Solved on prices surplus ends) ≡ answer_data names (SolvedByCounts counts prices' surplus' ends')
+      → IsSameByCounts (Solved on prices surplus ends) (SolvedByCounts counts prices' surplus' ends')
+  solved_alike on prices surplus ends counts prices' surplus' ends' e =
+      let nothing = nothing_goes names.trades on 0 counts (ap (part (codes "on")) e) in
+      let rest = same_solved prices surplus prices' surplus' (names_data names.trades on)
+      (counts_data names.trades counts) e in
+      (nothing.0, nothing.1, rest.0, rest.1)
+
+  ranged_alike : (on : List ℕ) (ranges : List Range) (ends : List Ends) (counts : List ℕ) (ranges' : List UnitRange)
+      (ends' : List Ends)
+      → IsNamedAnswer names (Ranges on ranges ends) → IsNamedAnswer names (RangesByCounts counts ranges' ends')
+      → answer_data names (Ranges on ranges ends) ≡ answer_data names (RangesByCounts counts ranges' ends')
+      → IsSameByCounts (Ranges on ranges ends) (RangesByCounts counts ranges' ends')
+  ranged_alike on ranges ends counts ranges' ends' h k e =
+      let nothing = nothing_goes names.trades on 0 counts (ap (part (codes "on")) e) in
+      (nothing.0, nothing.1, ranges_alike names.trades ranges ranges' h.2 k.2 (ap (part (codes "ranges")) e))
+
+  firms_alike : (content : ℕ) (told : List Holding) (surplus : Option ℤ) (content' : ℕ) (told' : List UnitHolding)
+      (surplus' : Option ℤ)
+      → IsNamedAnswer names (FirmsIs content told surplus) → IsNamedAnswer names (FirmsByCounts content' told' surplus')
+      → answer_data names (FirmsIs content told surplus) ≡ answer_data names (FirmsByCounts content' told' surplus')
+      → IsSameByCounts (FirmsIs content told surplus) (FirmsByCounts content' told' surplus')
+  firms_alike content told surplus content' told' surplus' h k e = (
+    ap (λ d. natural_in (part (codes "content") d)) e,
+    holdings_alike names trades told told' h.1 k.1 (ap (part (codes "firms")) e),
+    same_bound surplus surplus' (ap (part (codes "surplus")) e),
+  )
+
   -- of pages the text is told, of others the data
   pub same_object : (first second : Said) → IsNamedAnswer names first → IsNamedAnswer names second → HasShortNumbers first
       → HasShortNumbers second
@@ -522,6 +461,11 @@ module _ (names : NameLists) (firms : IsNameList names.firms) (trades : IsNameLi
       let same_firm = same_name names.firms firms firm other h.0 k.0 (ap (part (codes "firm")) e) in
       let same_gain = same_integer gain gain' (ap (part (codes "gain")) e) in
       λ i. Better (same_firm i) (same_bundle i) (same_gain i)
+  same_object (BetterByCounts firm bundle gain) (BetterByCounts other bundle' gain') h k short short' line e =
+      let same_bundle = same_entries names.trades trades bundle bundle' h.1 k.1 (ap (part (codes "bundle")) e) in
+      let same_firm = same_name names.firms firms firm other h.0 k.0 (ap (part (codes "firm")) e) in
+      let same_gain = same_integer gain gain' (ap (part (codes "gain")) e) in
+      λ i. BetterByCounts (same_firm i) (same_bundle i) (same_gain i)
   same_object (Impossible firm) (Impossible other) h k short short' line e =
       ap Impossible (same_name names.firms firms firm other h k (ap (part (codes "firm")) e))
   same_object Accepted Accepted h k short short' line e = refl
@@ -533,10 +477,16 @@ module _ (names : NameLists) (firms : IsNameList names.firms) (trades : IsNameLi
       λ i. ExchangeFails (same_firm i) (same_x i) (same_y i) (same_at i)
   same_object (Supported on prices ends) (Supported on' prices' ends') h k short short' line e =
       same_prices names.trades 0 prices prices' (ap (part (codes "prices")) e)
+  same_object (SupportedByCounts counts prices ends) (SupportedByCounts counts' prices' ends') h k short short' line e =
+      same_prices names.trades 0 prices prices' (ap (part (codes "prices")) e)
   same_object (Cycle nodes cost) (Cycle others cost') h k short short' line e =
       let same_cost = same_integer cost cost' (ap (part (codes "cost")) e) in
       let same_list = same_nodes names.trades trades nodes others h k (ap (part (codes "nodes")) e) in
       λ i. Cycle (same_list i) (same_cost i)
+  same_object (CycleByCounts nodes cost) (CycleByCounts others cost') h k short short' line e =
+      let same_cost = same_integer cost cost' (ap (part (codes "cost")) e) in
+      let same_list = same_steps names.trades trades nodes others h k (ap (part (codes "nodes")) e) in
+      λ i. CycleByCounts (same_list i) (same_cost i)
   same_object (Solved on prices surplus ends) (Solved on' prices' surplus' ends') h k short short' line e =
       let same_on = same_names names.trades trades on on' h.0 k.0 (ap (part (codes "on")) e) in
       let rest = same_solved prices surplus prices' surplus' (names_data names.trades on)
@@ -549,16 +499,6 @@ module _ (names : NameLists) (firms : IsNameList names.firms) (trades : IsNameLi
       let rest = same_solved prices surplus prices' surplus' (counts_data names.trades counts)
       (counts_data names.trades counts') e in
       (same_list, rest.0, rest.1)
-  same_object (Solved on prices surplus ends) (SolvedByCounts counts prices' surplus' ends') h k short short' line e =
-      let nothing = nothing_goes names.trades on 0 counts (ap (part (codes "on")) e) in
-      let rest = same_solved prices surplus prices' surplus' (names_data names.trades on)
-      (counts_data names.trades counts) e in
-      (nothing.0, nothing.1, rest.0, rest.1)
-  same_object (SolvedByCounts counts prices surplus ends) (Solved on prices' surplus' ends') h k short short' line e =
-      let nothing = nothing_goes names.trades on 0 counts (ap (part (codes "on")) (sym e)) in
-      let rest = same_solved prices surplus prices' surplus' (counts_data names.trades counts)
-      (names_data names.trades on) e in
-      (nothing.0, nothing.1, rest.0, rest.1)
   same_object (Drill size start firms surplus) (Drill size' start' firms' surplus') h k short short' line e =
       let same_size = ap (λ d. natural_in (part (codes "size") d)) e in
       let same_start = ap (λ d. natural_in (part (codes "start") d)) e in
@@ -567,14 +507,19 @@ module _ (names : NameLists) (firms : IsNameList names.firms) (trades : IsNameLi
       λ i. Drill (same_size i) (same_start i) (same_firms i) (same_surplus i)
   same_object (Ranges on ranges ends) (Ranges others other_ranges other_ends) h k short short' line e =
       let same_on = same_names names.trades trades on others h.0 k.0 (ap (part (codes "on")) e) in
-      let same_list = same_ranges names.trades trades 0 ranges other_ranges h.2 k.2 (ap (part (codes "ranges")) e) in
+      let same_list = same_ranges names.trades trades ranges other_ranges h.2 k.2 (ap (part (codes "ranges")) e) in
+      (same_on, same_list)
+  same_object (RangesByCounts counts ranges ends) (RangesByCounts counts' ranges' ends') h k short short' line e =
+      let same_on = same_counts names.trades trades 0 counts counts' (h.0 ∙ sym k.0) (omega (arith, h.0))
+      (ap (part (codes "on")) e) in
+      let same_list = same_unit_ranges names.trades trades ranges ranges' h.2 k.2 (ap (part (codes "ranges")) e) in
       (same_on, same_list)
   same_object (Session edits) (Session others) h k short short' line e =
       ap Session (same_states names.trades trades edits others h k (ap (part (codes "edits")) e))
   same_object (Drops firm keeps gain over) (Drops other keeps' gain' over') h k short short' line e =
       let same_firm = same_name names.firms firms firm other h.0 k.0 (ap (part (codes "firm")) e) in
       let same_keeps = same_names names.trades trades keeps keeps' h.1 k.1 (ap (part (codes "keeps")) e) in
-      let same_gain = same_bound names.trades trades gain gain' (ap (part (codes "gain")) e) in
+      let same_gain = same_bound gain gain' (ap (part (codes "gain")) e) in
       let same_over = same_integer over over' (ap (part (codes "over")) e) in
       λ i. Drops (same_firm i) (same_keeps i) (same_gain i) (same_over i)
   same_object (Completes prices over) (Completes prices' over') h k short short' line e =
@@ -594,10 +539,32 @@ module _ (names : NameLists) (firms : IsNameList names.firms) (trades : IsNameLi
       λ i. Cases (same_count i) (same_failed i)
   same_object (FirmsIs content holdings surplus) (FirmsIs content' holdings' surplus') h k short short' line e =
       let same_content = ap (λ d. natural_in (part (codes "content") d)) e in
-      let same_list = same_holdings names trades 0 holdings holdings' h.1 k.1 (ap (part (codes "firms")) e) in
-      let same_surplus = same_bound names.trades trades surplus surplus' (ap (part (codes "surplus")) e) in
+      let same_list = same_holdings names trades holdings holdings' h.1 k.1 (ap (part (codes "firms")) e) in
+      let same_surplus = same_bound surplus surplus' (ap (part (codes "surplus")) e) in
       λ i. FirmsIs (same_content i) (same_list i) (same_surplus i)
+  same_object (FirmsByCounts content holdings surplus) (FirmsByCounts content' holdings' surplus') h k short short'
+      line e =
+      let same_content = ap (λ d. natural_in (part (codes "content") d)) e in
+      let same_list = same_unit_holdings names trades holdings holdings' h.1 k.1 (ap (part (codes "firms")) e) in
+      let same_surplus = same_bound surplus surplus' (ap (part (codes "surplus")) e) in
+      λ i. FirmsByCounts (same_content i) (same_list i) (same_surplus i)
   same_object (PageIs page) (PageIs other) h k short short' line e =
       ap PageIs (sym (page_is_at page) ∙ ap (λ text. page_at (key text)) line ∙ page_is_at other)
+  same_object (Better f x u) (BetterByCounts g y v) h k short short' line e = better_alike f x u g y v h k e
+  same_object (BetterByCounts g y v) (Better f x u) h k short short' line e = better_alike f x u g y v k h (sym e)
+  same_object (Supported on prices ends) (SupportedByCounts counts prices' ends') h k short short' line e =
+      same_prices names.trades 0 prices prices' (ap (part (codes "prices")) e)
+  same_object (SupportedByCounts counts prices ends) (Supported on prices' ends') h k short short' line e =
+      same_prices names.trades 0 prices' prices (ap (part (codes "prices")) (sym e))
+  same_object (Cycle x c) (CycleByCounts y d) h k short short' line e = cycle_alike x c y d h k e
+  same_object (CycleByCounts y d) (Cycle x c) h k short short' line e = cycle_alike x c y d k h (sym e)
+  same_object (Solved x p s e) (SolvedByCounts y q t d) h k short short' line same = solved_alike x p s e y q t d same
+  same_object (SolvedByCounts y q t d) (Solved x p s e) h k short short' line same =
+      solved_alike x p s e y q t d (sym same)
+  same_object (Ranges x r e) (RangesByCounts y s d) h k short short' line same = ranged_alike x r e y s d h k same
+  same_object (RangesByCounts y s d) (Ranges x r e) h k short short' line same =
+      ranged_alike x r e y s d k h (sym same)
+  same_object (FirmsIs m x s) (FirmsByCounts n y t) h k short short' line e = firms_alike m x s n y t h k e
+  same_object (FirmsByCounts n y t) (FirmsIs m x s) h k short short' line e = firms_alike m x s n y t k h (sym e)
   same_object first second h k short short' line e =
       absurd (differs first second refl e)

@@ -1,5 +1,5 @@
 -- Parts of data, and what they tell of what stands in them: of names, of prices, and of counts of units.
-use Rattle.std.proofs.Common.{◌≡◌, ℕ, zero, suc, ℤ, pos, negsuc, ◌<◌, ◌+◌, ◌≤◌, List, [], ◌∷◌, length, slice_get, Option, Some, option_and_then, unwrap_or, All, refl, sym, ap, ◌∙◌, arith}
+use Rattle.std.proofs.Common.{◌≡◌, ℕ, zero, suc, ℤ, pos, negsuc, ◌<◌, ◌+◌, ◌≤◌, List, [], ◌∷◌, length, slice_get, Option, None, Some, option_and_then, unwrap_or, refl, sym, ap, ◌∙◌, arith}
 use Rattle.std.proofs.lemmas.List.Elements.{All-cons, All-nil}
 use Rattle.std.proofs.lemmas.Option.{same_Some, slice_get-get_or, unwrap_or-slice_get}
 use Rattle.serde_json.specs.Data.{Data, null, boolean, number, string, array, object, Items, no_items, item}
@@ -10,7 +10,7 @@ use Rattle.tn_names.specs.Names.{IsNameList}
 use Rattle.tn_names.specs.Named.{IsNamed}
 use Rattle.tn_answer.specs.Apart.{HasNoUnits}
 use Rattle.tn_answer.specs.AnswerText.{count_data, counts_from, prices_from}
-use Rattle.tn_answer.specs.Values.{integer_data, name_data, names_data}
+use Rattle.tn_answer.specs.Values.{bound_data, integer_data, name_data, names_data}
 use Rattle.tn_answer.proofs.CountLemmas.{counts-more}
 use Rattle.tn_answer.proofs.DataTexts.{clash}
 
@@ -57,6 +57,12 @@ integer_back (negsuc n) = refl
 
 pub same_integer : (y z : ℤ) → integer_data y ≡ integer_data z → y ≡ z
 same_integer y z e = same_Some y z (sym (integer_back y) ∙ ap integer_in e ∙ integer_back z)
+
+pub same_bound : (first second : Option ℤ) → bound_data first ≡ bound_data second → first ≡ second
+same_bound None None e = refl
+same_bound None (Some y) e = absurd (clash 0 2 refl (ap shape e))
+same_bound (Some x) None e = absurd (clash 2 0 refl (ap shape e))
+same_bound (Some x) (Some y) e = ap Some (same_integer x y e)
 
 -- the prices stand in their data, whatever the names
 pub same_prices : (names : List (List ℕ)) (k : ℕ) (xs ys : List ℤ)

@@ -3,7 +3,7 @@ use Rattle.std.proofs.Common.{◌≡◌, ℕ, zero, suc, Bool, true, false, ◌&
 use Rattle.std.specs.Int.{w64}
 use Rattle.std.proofs.lemmas.Int.{ints}
 use Rattle.std.specs.List.{list_all}
-use Rattle.serde_json.specs.Data.{array, object, member, no_members}
+use Rattle.serde_json.specs.Data.{Data, array, object, member, no_members}
 use Rattle.serde_json.specs.View.{items_of}
 use Rattle.tn_said.specs.declared.place.PlaceStep.{PlaceStep}
 use Rattle.tn_said.specs.declared.place.PlaceStep.TheVariants.{Key, Index, Trade}
@@ -15,16 +15,20 @@ use Rattle.tn_model.specs.declared.contract.Contract.{Contract}
 use Rattle.tn_said.specs.declared.holding.Holding.{Holding}
 use Rattle.tn_model.specs.declared.range.Range.{Range}
 use Rattle.tn_said.specs.declared.session.State.{State}
+use Rattle.tn_said.specs.declared.units.TradeUnits.{TradeUnits}
+use Rattle.tn_said.specs.declared.units.UnitStep.{UnitStep}
+use Rattle.tn_said.specs.declared.units.UnitHolding.{UnitHolding}
+use Rattle.tn_said.specs.declared.units.UnitRange.{UnitRange}
 use Rattle.tn_said.specs.declared.said.Said.{Said}
-use Rattle.tn_said.specs.declared.said.Said.TheVariants.{Usage, ReadFault, NoMemory, Fault as FaultIs, Equilibrium, Better, Impossible, Accepted, ExchangeFails, Supported, Cycle, Solved, SolvedByCounts, Drill, Ranges, Session, Drops, Completes, Blocks, Valid, Invalid, Cases, Page as PageIs, Firms}
+use Rattle.tn_said.specs.declared.said.Said.TheVariants.{Usage, ReadFault, NoMemory, Fault as FaultIs, Equilibrium, Better, BetterByCounts, Impossible, Accepted, ExchangeFails, Supported, SupportedByCounts, Cycle, CycleByCounts, Solved, SolvedByCounts, Drill, Ranges, RangesByCounts, Session, Drops, Completes, Blocks, Valid, Invalid, Cases, Page as PageIs, Firms, FirmsByCounts}
 use Rattle.tn_names.specs.Names.{NameLists}
-use Rattle.tn_answer.specs.AnswerText.{contracts_data, counts_data, counts_from, state_data, prices_data, nodes_data, step_data, answer, fault_members, fault_data, json, answer_form, form_text, answer_table, text_of, answer_line}
+use Rattle.tn_answer.specs.AnswerText.{contracts_data, counts_data, counts_from, state_data, prices_data, nodes_data, step_data, steps_data, unit_step_data, answer, fault_members, fault_data, json, answer_form, form_text, answer_table, text_of, answer_line}
 use Rattle.tn_answer.specs.declared.layout.Layout.{Layout}
 use Rattle.tn_answer.specs.declared.layout.Layout.TheVariants.{Object, Rows, WideRows}
 use Rattle.tn_answer.specs.Values.{names_data, option_data, integer_data}
 use Rattle.tn_answer.specs.ReasonText.{reason_members, reason_names_nothing, IsReasonWithin, IsShortReason}
-use Rattle.tn_answer.specs.Sayable.{HasShortBounds, IsSayable, IsShortHolding, IsShortState}
-use Rattle.tn_answer.specs.Kept.{HasWithinBounds, IsWithinHolding, IsWithinState, IsWithinClaim, IsWithinPrices, IsWithinClaims}
+use Rattle.tn_answer.specs.Sayable.{HasShortBounds, HasShortUnitBounds, IsSayable, IsShortEntry, IsShortHolding, IsShortState, IsShortUnitHolding}
+use Rattle.tn_answer.specs.Kept.{HasWithinBounds, HasWithinUnitBounds, IsWithinEntry, IsWithinHolding, IsWithinState, IsWithinUnitHolding, IsWithinClaim, IsWithinPrices, IsWithinClaims}
 use Rattle.tn_answer.proofs.CountLemmas.{is_some}
 use Rattle.tn_answer.specs.Laws.{are_none, has_no_units, is_empty, state_names_nothing, names_no_trade_at, names_no_trade_in, names_nothing}
 
@@ -64,16 +68,22 @@ same_contracts : (trades others : List (List ℕ)) (contracts : List Contract) �
 same_contracts trades others [] e = refl
 same_contracts trades others (contract ∷ contracts) e = absurd (true≢false (sym e))
 
-same_options : (trades others : List (List ℕ)) (nodes : List (Option ℕ)) → list_all is_none nodes ≡ true
-    → map (option_data trades) nodes ≡ map (option_data others) nodes
-same_options trades others [] e = refl
-same_options trades others (node ∷ nodes) e =
-    let parts = both (is_none node) (list_all is_none nodes) e in
-    λ j. same_option trades others node parts.0 j ∷ same_options trades others nodes parts.1 j
+-- nodes that are all null
+module _ {A : Type 0} (data_of other_of : Option A → Data) (null : data_of None ≡ other_of None) where
+  same_nulls : (nodes : List (Option A)) → list_all is_none nodes ≡ true → map data_of nodes ≡ map other_of nodes
+  same_nulls [] e = refl
+  same_nulls (None ∷ nodes) e = λ j. null j ∷ same_nulls nodes e j
+  same_nulls (Some node ∷ nodes) e = absurd (true≢false (sym e))
 
 same_nodes : (trades others : List (List ℕ)) (nodes : List (Option ℕ)) → list_all is_none nodes ≡ true
     → nodes_data trades nodes ≡ nodes_data others nodes
-same_nodes trades others nodes e = ap (λ ds. array (items_of ds)) (same_options trades others nodes e)
+same_nodes trades others nodes e =
+    ap (λ ds. array (items_of ds)) (same_nulls (option_data trades) (option_data others) refl nodes e)
+
+same_walk : (trades others : List (List ℕ)) (steps : List (Option UnitStep)) → list_all is_none steps ≡ true
+    → steps_data trades steps ≡ steps_data others steps
+same_walk trades others steps e =
+    ap (λ ds. array (items_of ds)) (same_nulls (unit_step_data trades) (unit_step_data others) refl steps e)
 
 same_state : (trades others : List (List ℕ)) (state : State) → state_names_nothing state ≡ true
     → state_data trades state ≡ state_data others state
@@ -139,16 +149,24 @@ same_form (FaultIs fault) names others e =
     ap json (same_fault names.trades others.trades fault fault.shown parts.0 parts.1)
 same_form (Equilibrium surplus) names others e = refl
 same_form (Better firm bundle gain) names others e = absurd (true≢false (sym e))
+same_form (BetterByCounts firm bundle gain) names others e = absurd (true≢false (sym e))
 same_form (Impossible firm) names others e = absurd (true≢false (sym e))
 same_form Accepted names others e = refl
 same_form (ExchangeFails firm x y at) names others e = absurd (true≢false (sym e))
 same_form (Supported on prices ends) names others e =
     ap (λ d. json (answer (codes "prices") (member (codes "prices") d no_members)))
     (same_prices names.trades others.trades prices e)
+same_form (SupportedByCounts counts prices ends) names others e =
+    ap (λ d. json (answer (codes "prices") (member (codes "prices") d no_members)))
+    (same_prices names.trades others.trades prices e)
 same_form (Cycle nodes cost) names others e =
     ap (λ d. json
     (answer (codes "cycle") (member (codes "cost") (integer_data cost) (member (codes "nodes") d no_members))))
     (same_nodes names.trades others.trades nodes e)
+same_form (CycleByCounts nodes cost) names others e =
+    ap (λ d. json
+    (answer (codes "cycle") (member (codes "cost") (integer_data cost) (member (codes "nodes") d no_members))))
+    (same_walk names.trades others.trades nodes e)
 same_form (Solved on prices surplus ends) names others e =
     let parts = both (are_none on) (is_empty prices) e in
     λ j. json (answer (codes "solved")
@@ -168,6 +186,13 @@ same_form (Ranges on [] ends) names others e =
     (answer (codes "ranges") (member (codes "on") d (member (codes "ranges") (array (items_of [])) no_members))))
     (same_names names.trades others.trades on parts.0)
 same_form (Ranges on (range ∷ ranges) ends) names others e = absurd (true≢false (sym (both (are_none on) false e).1))
+same_form (RangesByCounts counts [] ends) names others e =
+    let parts = both (has_no_units counts) true e in
+    ap (λ d. json
+    (answer (codes "ranges") (member (codes "on") d (member (codes "ranges") (array (items_of [])) no_members))))
+    (same_counts names.trades others.trades counts parts.0)
+same_form (RangesByCounts counts (range ∷ ranges) ends) names others e =
+    absurd (true≢false (sym (both (has_no_units counts) false e).1))
 same_form (Session edits) names others e =
     ap (λ ds. json (answer (codes "session") (member (codes "edits") (array (items_of ds)) no_members)))
     (same_states names.trades others.trades edits e)
@@ -187,11 +212,15 @@ same_form (Cases count failed) names others e = refl
 same_form (PageIs page) names others e = refl
 same_form (Firms content [] surplus) names others e = refl
 same_form (Firms content (holding ∷ holdings) surplus) names others e = absurd (true≢false (sym e))
+same_form (FirmsByCounts content [] surplus) names others e = refl
+same_form (FirmsByCounts content (holding ∷ holdings) surplus) names others e = absurd (true≢false (sym e))
 
 same_rows : (said : Said) (names others : NameLists) → names_nothing said ≡ true
     → answer_table names said Rows ≡ answer_table others said Rows
 same_rows (Supported on [] ends) names others e = refl
 same_rows (Supported on (price ∷ prices) ends) names others e = absurd (true≢false (sym e))
+same_rows (SupportedByCounts counts [] ends) names others e = refl
+same_rows (SupportedByCounts counts (price ∷ prices) ends) names others e = absurd (true≢false (sym e))
 same_rows (Solved on [] surplus ends) names others e = refl
 same_rows (Solved on (price ∷ prices) surplus ends) names others e =
     absurd (true≢false (sym (both (are_none on) false e).1))
@@ -202,6 +231,11 @@ same_rows (Ranges on [] ends) names others e = refl
 same_rows (Ranges on (range ∷ ranges) ends) names others e = absurd (true≢false (sym (both (are_none on) false e).1))
 same_rows (Firms content [] surplus) names others e = refl
 same_rows (Firms content (holding ∷ holdings) surplus) names others e = absurd (true≢false (sym e))
+same_rows (RangesByCounts counts [] ends) names others e = refl
+same_rows (RangesByCounts counts (range ∷ ranges) ends) names others e =
+    absurd (true≢false (sym (both (has_no_units counts) false e).1))
+same_rows (FirmsByCounts content [] surplus) names others e = refl
+same_rows (FirmsByCounts content (holding ∷ holdings) surplus) names others e = absurd (true≢false (sym e))
 same_rows said names others e = refl
 
 same_wide_rows : (said : Said) (names others : NameLists) → names_nothing said ≡ true
@@ -217,10 +251,13 @@ same_wide_rows said names others e = refl
 -- no answer has rows as an object
 no_table : (names : NameLists) (said : Said) → answer_table names said Object ≡ None
 no_table names (Supported on prices ends) = refl
+no_table names (SupportedByCounts counts prices ends) = refl
 no_table names (Solved on prices surplus ends) = refl
 no_table names (SolvedByCounts counts prices surplus ends) = refl
 no_table names (Ranges on ranges ends) = refl
 no_table names (Firms content firms surplus) = refl
+no_table names (RangesByCounts counts ranges ends) = refl
+no_table names (FirmsByCounts content firms surplus) = refl
 no_table names said = refl
 
 pub object_line : (names : NameLists) (said : Said) → form_text (answer_form names said) ≡ answer_line Object names said
@@ -284,6 +321,26 @@ holding_fits holding within = record {
   worth = gain_fits holding.worth within.worth;
 }
 
+entry_fits : (entry : TradeUnits) → IsWithinEntry entry → IsShortEntry entry
+entry_fits entry within = omega (arith, within)
+
+bundle_fits : (bundle : List TradeUnits) → All IsWithinEntry bundle → All IsShortEntry bundle
+bundle_fits bundle within = λ k d below. entry_fits (get_or bundle k d) (within k d below)
+
+unit_range_fits : (range : UnitRange) → HasWithinUnitBounds range → HasShortUnitBounds range
+unit_range_fits range within =
+    record { high = bound_fits range.high within.high; low = bound_fits range.low within.low }
+
+unit_holding_fits : (holding : UnitHolding) → IsWithinUnitHolding holding → IsShortUnitHolding holding
+unit_holding_fits holding within = record {
+  best = bundle_fits holding.best within.best;
+  best_utility = fits_from_within holding.best_utility within.best_utility;
+  gain = gain_fits holding.gain within.gain;
+  has = bundle_fits holding.has within.has;
+  utility = gain_fits holding.utility within.utility;
+  worth = gain_fits holding.worth within.worth;
+}
+
 reason_fits : (reason : Reason) → IsReasonWithin reason → IsShortReason reason
 reason_fits (Surplus surplus) within = fits_from_within surplus within
 reason_fits (Gain firm gain) within = gain_fits gain within
@@ -311,17 +368,25 @@ within_sayable NoMemory within = tt
 within_sayable (FaultIs fault) within = tt
 within_sayable (Equilibrium surplus) within = fits_from_within surplus within
 within_sayable (Better firm bundle gain) within = fits_from_within gain within
+within_sayable (BetterByCounts firm bundle gain) within = (bundle_fits bundle within.0, fits_from_within gain within.1)
 within_sayable (Impossible firm) within = tt
 within_sayable Accepted within = tt
 within_sayable (ExchangeFails firm x y at) within = tt
 within_sayable (Supported on prices ends) within = prices_fit prices within
+within_sayable (SupportedByCounts counts prices ends) within =
+    (naturals_fit counts within.0, prices_fit prices within.1)
 within_sayable (Cycle nodes cost) within = fits_from_within cost within
+within_sayable (CycleByCounts nodes cost) within = fits_from_within cost within
 within_sayable (Solved on prices surplus ends) within = (prices_fit prices within.0, fits_from_within surplus within.1)
 within_sayable (SolvedByCounts counts prices surplus ends) within =
     (naturals_fit counts within.0, prices_fit prices within.1, fits_from_within surplus within.2)
 within_sayable (Drill size start firms surplus) within =
     (omega (arith, within.0), omega (arith, within.1), omega (arith, within.2), fits_from_within surplus within.3)
 within_sayable (Ranges on ranges ends) within = λ k d below. range_fits (get_or ranges k d) (within k d below)
+within_sayable (RangesByCounts counts ranges ends) within = (
+  naturals_fit counts within.0,
+  (λ k d below. unit_range_fits (get_or ranges k d) (within.1 k d below)),
+)
 within_sayable (Session edits) within = λ k d below. state_fits (get_or edits k d) (within k d below)
 within_sayable (Drops firm keeps gain over) within = (gain_fits gain within.0, fits_from_within over within.1)
 within_sayable (Completes prices over) within =
@@ -331,6 +396,11 @@ within_sayable (PageIs page) within = tt
 within_sayable (Firms content firms surplus) within = (
   omega (arith, within.0),
   (λ k d below. holding_fits (get_or firms k d) (within.1 k d below)),
+  gain_fits surplus within.2,
+)
+within_sayable (FirmsByCounts content firms surplus) within = (
+  omega (arith, within.0),
+  (λ k d below. unit_holding_fits (get_or firms k d) (within.1 k d below)),
   gain_fits surplus within.2,
 )
 within_sayable (Invalid reason) within = reason_fits reason within

@@ -11,5 +11,7 @@ pub mod RowLemmas
 pub mod BundleLemmas
 pub mod SameRows
 pub mod DataParts
+pub mod ListsApart
+pub mod MembersApart
 pub mod ApartLemmas
 pub mod LayoutsApart

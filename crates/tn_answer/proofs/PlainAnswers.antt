@@ -1,9 +1,10 @@
 -- The data of an answer are plain: their texts have characters of names alone, and their numbers are short.
-use Rattle.std.proofs.Common.{◌≡◌, ℕ, zero, suc, ℤ, pos, negsuc, ◌<◌, ◌^◌, true, List, [], ◌∷◌, map, slice_get, All, IfSome, Option, None, Some, unwrap_or, FitsSigned, refl, sym, subst, arith, codes}
+use Rattle.std.proofs.Common.{◌≡◌, ℕ, zero, suc, ℤ, pos, negsuc, ◌<◌, ◌^◌, Bool, true, false, List, [], ◌∷◌, map, slice_get, All, IfSome, Option, None, Some, unwrap_or, FitsSigned, refl, sym, subst, arith, codes}
 use Rattle.std.specs.Int.{w64}
 use Rattle.std.proofs.lemmas.Bool.{and_parts}
+use Rattle.std.proofs.lemmas.Int.{ints}
 use Rattle.std.proofs.lemmas.List.Elements.{All-head, All-tail}
-use Rattle.serde_json.specs.Data.{number, unsigned}
+use Rattle.serde_json.specs.Data.{Data, number, unsigned}
 use Rattle.serde_json.specs.Find.{of_integer}
 use Rattle.serde_json.specs.View.{items_of}
 use Rattle.tn_said.specs.declared.fault.FaultKind.{FaultKind}
@@ -21,16 +22,20 @@ use Rattle.tn_model.specs.declared.contract.Contract.{Contract}
 use Rattle.tn_said.specs.declared.holding.Holding.{Holding}
 use Rattle.tn_model.specs.declared.range.Range.{Range}
 use Rattle.tn_said.specs.declared.session.State.{State}
+use Rattle.tn_said.specs.declared.units.TradeUnits.{TradeUnits}
+use Rattle.tn_said.specs.declared.units.UnitStep.{UnitStep}
+use Rattle.tn_said.specs.declared.units.UnitHolding.{UnitHolding}
+use Rattle.tn_said.specs.declared.units.UnitRange.{UnitRange}
 use Rattle.tn_said.specs.declared.said.Said.{Said}
-use Rattle.tn_said.specs.declared.said.Said.TheVariants.{Usage, ReadFault, NoMemory, Fault as FaultIs, Equilibrium, Better, Impossible, Accepted, ExchangeFails, Supported, Cycle, Solved, SolvedByCounts, Drill, Ranges, Session, Drops, Completes, Blocks, Valid, Invalid, Cases, Page as PageIs, Firms}
+use Rattle.tn_said.specs.declared.said.Said.TheVariants.{Usage, ReadFault, NoMemory, Fault as FaultIs, Equilibrium, Better, BetterByCounts, Impossible, Accepted, ExchangeFails, Supported, SupportedByCounts, Cycle, CycleByCounts, Solved, SolvedByCounts, Drill, Ranges, RangesByCounts, Session, Drops, Completes, Blocks, Valid, Invalid, Cases, Page as PageIs, Firms, FirmsByCounts}
 use Rattle.tn_names.specs.Names.{NameLists, IsNameList, is_name}
 use Rattle.tn_said.specs.Words.{word_text}
 use Rattle.tn_answer.specs.Words.{kind_name}
 use Rattle.tn_answer.specs.Rows.{each_from}
 use Rattle.tn_answer.specs.ReasonText.{reason_members, IsShortReason}
-use Rattle.tn_answer.specs.Sayable.{HasShortBounds, IsShortHolding, IsShortState}
-use Rattle.tn_answer.specs.AnswerText.{contract_data, counts_from, holding_data, range_data, state_data, prices_from, step_data, fault_data, answer, answer_data}
-use Rattle.tn_answer.specs.Values.{bound_data, name_data, option_data}
+use Rattle.tn_answer.specs.Sayable.{HasShortBounds, HasShortUnitBounds, IsShortEntry, IsShortHolding, IsShortState, IsShortUnitHolding}
+use Rattle.tn_answer.specs.AnswerText.{bounds_data, bundle_data, contract_data, counts_from, direction, entry_data, held_data, holding_data, nodes_data, price_data, range_data, state_data, prices_from, step_data, steps_data, fault_data, unit_holding_data, unit_range_data, unit_step_data, answer, answer_data}
+use Rattle.tn_answer.specs.Values.{bound_data, name_data, names_data, option_data}
 use Rattle.tn_names.specs.Named.{HasShortIndex}
 use Rattle.tn_answer.specs.Apart.{HasShortNumbers}
 use Rattle.tn_answer.proofs.CountLemmas.{counts-more}
@@ -52,6 +57,24 @@ integer_is_short : (z : ℤ) → FitsSigned w64 z → IsShort (of_integer z)
 integer_is_short (pos n) h = omega (arith, h)
 integer_is_short (negsuc n) h = omega (arith, h)
 
+module _ {A : Type 0} (data_of : A → Data) (IsKnown : A → Type 0)
+    (one : (x : A) → IsKnown x → IsPlain (data_of x)) where
+  items_are_plain : (xs : List A) → All IsKnown xs → ItemsArePlain (items_of (map data_of xs))
+  items_are_plain [] h = tt
+  items_are_plain (x ∷ xs) h =
+      (one x (All-head IsKnown x xs h), items_are_plain xs (All-tail IsKnown x xs h))
+
+module _ {A : Type 0} (data_of : ℕ → A → Data) (IsKnown : A → Type 0)
+    (one : (k : ℕ) (x : A) → IsKnown x → IsPlain (data_of k x)) where
+  each_is_plain : (k : ℕ) (xs : List A) → All IsKnown xs → ItemsArePlain (items_of (each_from data_of k xs))
+  each_is_plain k [] h = tt
+  each_is_plain k (x ∷ xs) h =
+      (one k x (All-head IsKnown x xs h), each_is_plain (suc k) xs (All-tail IsKnown x xs h))
+
+bound_is_plain : (bound : Option ℤ) → IfSome bound (FitsSigned w64) → IsPlain (bound_data bound)
+bound_is_plain None h = tt
+bound_is_plain (Some price) h = integer_is_short price h
+
 module _ (names : List (List ℕ)) (kept : IsNameList names) where
   name_is_plain : (k : ℕ) → IsPlain (name_data names k)
   name_is_plain k = found (slice_get names k) (λ name at. kept.named k name at)
@@ -71,11 +94,10 @@ module _ (names : List (List ℕ)) (kept : IsNameList names) where
 
   prices_are_plain : (k : ℕ) (prices : List ℤ) → All (FitsSigned w64) prices
       → ItemsArePlain (items_of (prices_from names k prices))
-  prices_are_plain k [] h = tt
-  prices_are_plain k (price ∷ prices) h = (
-    (name_is_plain k, (integer_is_short price (All-head (FitsSigned w64) price prices h), tt)),
-    prices_are_plain (suc k) prices (All-tail (FitsSigned w64) price prices h),
-  )
+  prices_are_plain = each_is_plain (price_data names) (FitsSigned w64) (λ k price h. (
+    name_is_plain k,
+    (integer_is_short price h, tt),
+  ))
 
   counts_are_plain : (k : ℕ) (counts : List ℕ) → All (λ n. n < 2 ^ 64) counts
       → ItemsArePlain (items_of (counts_from names k counts))
@@ -93,50 +115,55 @@ module _ (names : List (List ℕ)) (kept : IsNameList names) where
 
   contracts_are_plain : (contracts : List Contract) → All (λ contract. FitsSigned w64 contract.price) contracts
       → ItemsArePlain (items_of (map (contract_data names) contracts))
-  contracts_are_plain [] h = tt
-  contracts_are_plain (contract ∷ contracts) h =
-      let short = λ (contract : Contract). FitsSigned w64 contract.price in (
-        (name_is_plain contract.trade, (integer_is_short contract.price (All-head short contract contracts h), tt)),
-        contracts_are_plain contracts (All-tail short contract contracts h),
-      )
+  contracts_are_plain = items_are_plain (contract_data names) (λ contract. FitsSigned w64 contract.price)
+      (λ contract h. (name_is_plain contract.trade, (integer_is_short contract.price h, tt)))
 
-  bound_is_plain : (bound : Option ℤ) → IfSome bound (FitsSigned w64) → IsPlain (bound_data bound)
-  bound_is_plain None h = tt
-  bound_is_plain (Some price) h = integer_is_short price h
+  bundle_is_plain : (bundle : List TradeUnits) → All IsShortEntry bundle
+      → ItemsArePlain (items_of (map (entry_data names) bundle))
+  bundle_is_plain = items_are_plain (entry_data names) IsShortEntry
+      (λ entry h. (name_is_plain entry.trade, (h, tt)))
 
-  range_is_plain : (k : ℕ) (range : Range) → HasShortBounds range → IsPlain (range_data names k range)
-  range_is_plain k range h = (
+  direction_fits : (more : Bool) → FitsSigned w64 (direction more)
+  direction_fits true = omega (arith, ints)
+  direction_fits false = omega (arith, ints)
+
+  unit_step_is_plain : (node : Option UnitStep) → IsPlain (unit_step_data names node)
+  unit_step_is_plain None = tt
+  unit_step_is_plain (Some step) =
+      (name_is_plain step.trade, (integer_is_short (direction step.more) (direction_fits step.more), tt))
+
+  steps_are_plain : (steps : List (Option UnitStep)) → ItemsArePlain (items_of (map (unit_step_data names) steps))
+  steps_are_plain [] = tt
+  steps_are_plain (step ∷ steps) = (unit_step_is_plain step, steps_are_plain steps)
+
+  bounds_are_plain : (k : ℕ) (low : Option ℤ) (low_path : Data) (high : Option ℤ) (high_path : Data)
+      → IfSome low (FitsSigned w64) → IfSome high (FitsSigned w64) → IsPlain low_path → IsPlain high_path
+      → IsPlain (bounds_data names k low low_path high high_path)
+  bounds_are_plain k low low_path high high_path low_fits high_fits to from = (
     refl,
-    bound_is_plain range.high h.high,
-    (
-      refl,
-      nodes_are_plain range.high_path,
-      (refl, bound_is_plain range.low h.low, (refl, nodes_are_plain range.low_path, (refl, name_is_plain k, tt))),
-    ),
+    bound_is_plain high high_fits,
+    (refl, from, (refl, bound_is_plain low low_fits, (refl, to, (refl, name_is_plain k, tt)))),
   )
 
   ranges_are_plain : (k : ℕ) (ranges : List Range) → All HasShortBounds ranges
       → ItemsArePlain (items_of (each_from (range_data names) k ranges))
-  ranges_are_plain k [] h = tt
-  ranges_are_plain k (range ∷ ranges) h = (
-    range_is_plain k range (All-head HasShortBounds range ranges h),
-    ranges_are_plain (suc k) ranges (All-tail HasShortBounds range ranges h),
-  )
+  ranges_are_plain = each_is_plain (range_data names) HasShortBounds (λ k range h. bounds_are_plain k range.low
+      (nodes_data names range.low_path) range.high (nodes_data names range.high_path) h.low h.high
+      (nodes_are_plain range.low_path) (nodes_are_plain range.high_path))
 
-  state_is_plain : (state : State) → IsShortState state → IsPlain (state_data names state)
-  state_is_plain state h = (
-    refl,
-    names_are_plain state.on,
-    (refl, contracts_are_plain state.prices h.prices, (refl, integer_is_short state.surplus h.surplus, tt)),
-  )
+  unit_ranges_are_plain : (k : ℕ) (ranges : List UnitRange) → All HasShortUnitBounds ranges
+      → ItemsArePlain (items_of (each_from (unit_range_data names) k ranges))
+  unit_ranges_are_plain = each_is_plain (unit_range_data names) HasShortUnitBounds (λ k range h. bounds_are_plain k
+      range.low (steps_data names range.low_path) range.high (steps_data names range.high_path) h.low h.high
+      (steps_are_plain range.low_path) (steps_are_plain range.high_path))
 
   states_are_plain : (states : List State) → All IsShortState states
       → ItemsArePlain (items_of (map (state_data names) states))
-  states_are_plain [] h = tt
-  states_are_plain (state ∷ states) h = (
-    state_is_plain state (All-head IsShortState state states h),
-    states_are_plain states (All-tail IsShortState state states h),
-  )
+  states_are_plain = items_are_plain (state_data names) IsShortState (λ state h. (
+    refl,
+    names_are_plain state.on,
+    (refl, contracts_are_plain state.prices h.prices, (refl, integer_is_short state.surplus h.surplus, tt)),
+  ))
 
   step_is_plain : (step : PlaceStep) → HasShortIndex step → IsPlain (step_data names step)
   step_is_plain (Key word) h = word_text_is_plain word
@@ -195,7 +222,7 @@ module _ (names : NameLists) (firms : IsNameList names.firms) (trades : IsNameLi
   reason_is_plain (Possible firm) h = (refl, refl, (refl, firm_is_plain firm, (refl, refl, tt)))
   reason_is_plain (Surplus surplus) h = (refl, refl, (refl, refl, (refl, integer_is_short surplus h, tt)))
   reason_is_plain (Gain firm gain) h =
-      (refl, refl, (refl, firm_is_plain firm, (refl, bound_is_plain names.trades trades gain h, (refl, refl, tt))))
+      (refl, refl, (refl, firm_is_plain firm, (refl, bound_is_plain gain h, (refl, refl, tt))))
   reason_is_plain (Exchange firm x y at) h = (
     refl,
     refl,
@@ -239,28 +266,23 @@ module _ (names : NameLists) (firms : IsNameList names.firms) (trades : IsNameLi
   )
 
 module _ (names : NameLists) (firms : IsNameList names.firms) (trades : IsNameList names.trades) where
-  holding_is_plain : (k : ℕ) (holding : Holding) → IsShortHolding holding → IsPlain (holding_data names k holding)
-  holding_is_plain k holding h = (
+  held_is_plain : (k : ℕ) (has best : Data) (worth utility : Option ℤ) (best_utility : ℤ) (gain : Option ℤ)
+      → IsPlain has → IsPlain best → IfSome worth (FitsSigned w64) → IfSome utility (FitsSigned w64)
+      → FitsSigned w64 best_utility → IfSome gain (FitsSigned w64)
+      → IsPlain (held_data names.firms k has best worth utility best_utility gain)
+  held_is_plain k has best worth utility best_utility gain own other worth_fits utility_fits best_fits gain_fits = (
     refl,
-    names_are_plain names.trades trades holding.best,
+    other,
     (
       refl,
-      integer_is_short holding.best_utility h.best_utility,
+      integer_is_short best_utility best_fits,
       (
         refl,
         name_is_plain names.firms firms k,
         (
           refl,
-          bound_is_plain names.trades trades holding.gain h.gain,
-          (
-            refl,
-            names_are_plain names.trades trades holding.has,
-            (
-              refl,
-              bound_is_plain names.trades trades holding.utility h.utility,
-              (refl, bound_is_plain names.trades trades holding.worth h.worth, tt),
-            ),
-          ),
+          bound_is_plain gain gain_fits,
+          (refl, own, (refl, bound_is_plain utility utility_fits, (refl, bound_is_plain worth worth_fits, tt))),
         ),
       ),
     ),
@@ -268,11 +290,17 @@ module _ (names : NameLists) (firms : IsNameList names.firms) (trades : IsNameLi
 
   holdings_are_plain : (k : ℕ) (holdings : List Holding) → All IsShortHolding holdings
       → ItemsArePlain (items_of (each_from (holding_data names) k holdings))
-  holdings_are_plain k [] h = tt
-  holdings_are_plain k (holding ∷ holdings) h = (
-    holding_is_plain k holding (All-head IsShortHolding holding holdings h),
-    holdings_are_plain (suc k) holdings (All-tail IsShortHolding holding holdings h),
-  )
+  holdings_are_plain = each_is_plain (holding_data names) IsShortHolding (λ k holding h. held_is_plain k
+      (names_data names.trades holding.has) (names_data names.trades holding.best) holding.worth holding.utility
+      holding.best_utility holding.gain (names_are_plain names.trades trades holding.has)
+      (names_are_plain names.trades trades holding.best) h.worth h.utility h.best_utility h.gain)
+
+  unit_holdings_are_plain : (k : ℕ) (holdings : List UnitHolding) → All IsShortUnitHolding holdings
+      → ItemsArePlain (items_of (each_from (unit_holding_data names) k holdings))
+  unit_holdings_are_plain = each_is_plain (unit_holding_data names) IsShortUnitHolding (λ k holding h. held_is_plain k
+      (bundle_data names.trades holding.has) (bundle_data names.trades holding.best) holding.worth holding.utility
+      holding.best_utility holding.gain (bundle_is_plain names.trades trades holding.has h.has)
+      (bundle_is_plain names.trades trades holding.best h.best) h.worth h.utility h.best_utility h.gain)
 
 numbers_are_plain : (numbers : List ℕ) → All (λ n. n < 2 ^ 64) numbers
     → ItemsArePlain (items_of (map (λ n. number (unsigned n)) numbers))
@@ -298,6 +326,15 @@ answer_is_plain names firms trades (Better firm bundle gain) h = (
     (refl, name_is_plain names.firms firms firm, (refl, integer_is_short gain h, tt)),
   ),
 )
+answer_is_plain names firms trades (BetterByCounts firm bundle gain) h = (
+  refl,
+  refl,
+  (
+    refl,
+    bundle_is_plain names.trades trades bundle h.0,
+    (refl, name_is_plain names.firms firms firm, (refl, integer_is_short gain h.1, tt)),
+  ),
+)
 answer_is_plain names firms trades (Impossible firm) h = (refl, refl, (refl, name_is_plain names.firms firms firm, tt))
 answer_is_plain names firms trades Accepted h = (refl, refl, tt)
 answer_is_plain names firms trades (ExchangeFails firm x y at) h = (
@@ -319,8 +356,12 @@ answer_is_plain names firms trades (ExchangeFails firm x y at) h = (
 )
 answer_is_plain names firms trades (Supported on prices ends) h =
     (refl, refl, (refl, prices_are_plain names.trades trades 0 prices h, tt))
+answer_is_plain names firms trades (SupportedByCounts counts prices ends) h =
+    (refl, refl, (refl, prices_are_plain names.trades trades 0 prices h.1, tt))
 answer_is_plain names firms trades (Cycle nodes cost) h =
     (refl, refl, (refl, integer_is_short cost h, (refl, nodes_are_plain names.trades trades nodes, tt)))
+answer_is_plain names firms trades (CycleByCounts nodes cost) h =
+    (refl, refl, (refl, integer_is_short cost h, (refl, steps_are_plain names.trades trades nodes, tt)))
 answer_is_plain names firms trades (Solved on prices surplus ends) h = (
   refl,
   refl,
@@ -350,6 +391,15 @@ answer_is_plain names firms trades (Ranges on ranges ends) h = (
     (refl, ranges_are_plain names.trades trades 0 ranges h, tt),
   ),
 )
+answer_is_plain names firms trades (RangesByCounts counts ranges ends) h = (
+  refl,
+  refl,
+  (
+    refl,
+    counts_are_plain names.trades trades 0 counts h.0,
+    (refl, unit_ranges_are_plain names.trades trades 0 ranges h.1, tt),
+  ),
+)
 answer_is_plain names firms trades (Session edits) h =
     (refl, refl, (refl, states_are_plain names.trades trades edits h, tt))
 answer_is_plain names firms trades (Drops firm keeps gain over) h = (
@@ -360,7 +410,7 @@ answer_is_plain names firms trades (Drops firm keeps gain over) h = (
     name_is_plain names.firms firms firm,
     (
       refl,
-      bound_is_plain names.trades trades gain h.0,
+      bound_is_plain gain h.0,
       (refl, names_are_plain names.trades trades keeps, (refl, integer_is_short over h.1, tt)),
     ),
   ),
@@ -378,8 +428,17 @@ answer_is_plain names firms trades (Firms content holdings surplus) h = (
     (
       refl,
       holdings_are_plain names firms trades 0 holdings h.1,
-      (refl, bound_is_plain names.trades trades surplus h.2, tt),
+      (refl, bound_is_plain surplus h.2, tt),
     ),
+  ),
+)
+answer_is_plain names firms trades (FirmsByCounts content holdings surplus) h = (
+  refl,
+  refl,
+  (
+    refl,
+    h.0,
+    (refl, unit_holdings_are_plain names firms trades 0 holdings h.1, (refl, bound_is_plain surplus h.2, tt)),
   ),
 )
 answer_is_plain names firms trades (Invalid reason) h = reason_is_plain names firms trades reason h

@@ -6,6 +6,7 @@ use Rattle.std.proofs.lemmas.Fmt.{decimal_digit, decimal_injective}
 use Rattle.std.proofs.lemmas.List.{get_or_past}
 use Rattle.std.proofs.lemmas.List.Elements.{All-head, All-tail}
 use Rattle.std.proofs.lemmas.Option.{none-some, same_Some, slice_get_within, get_or_from_slice_get}
+use Rattle.std.specs.List.{AllZip, each_same}
 use Rattle.csv.specs.Machine.{next_record}
 use Rattle.csv.specs.Reading.{default_config}
 use Rattle.csv.specs.Writing.{default_writer, row_text, read_back}
@@ -103,10 +104,10 @@ module _ {A B : Type 0} (row : ℕ → A → List (List ℕ)) (other : ℕ → B
       let none_before : 0 + k ≡ k = omega arith in
       subst (λ n. read_back (row n x) ≡ read_back (other n y)) none_before (same_from 0 xs ys l parts.1 k x y at there)
 
--- lists that agree place by place in what a function gives
-module _ {A B : Type 0} (f : A → B) where
-  pub same_places : (xs ys : List A) → length xs ≡ length ys
-      → ((k : ℕ) (x y : A) → slice_get xs k ≡ Some x → slice_get ys k ≡ Some y → f x ≡ f y) → map f xs ≡ map f ys
+-- lists that agree place by place in what two functions give
+module _ {A B C : Type 0} (f : A → C) (g : B → C) where
+  pub same_places : (xs : List A) (ys : List B) → length xs ≡ length ys
+      → ((k : ℕ) (x : A) (y : B) → slice_get xs k ≡ Some x → slice_get ys k ≡ Some y → f x ≡ g y) → map f xs ≡ map g ys
   same_places [] [] l h = refl
   same_places [] (y ∷ ys) l h = absurd (omega (arith, l))
   same_places (x ∷ xs) [] l h = absurd (omega (arith, l))
@@ -115,15 +116,21 @@ module _ {A B : Type 0} (f : A → B) where
       let rest = same_places xs ys (omega (arith, l)) (λ k v w at there. h (suc k) v w at there) in
       λ j. first j ∷ rest j
 
+-- lists that are alike place by place
+module _ {A B : Type 0} (IsAlike : A → B → Type 0) where
+  pub alike_places : (xs : List A) (ys : List B) → length xs ≡ length ys
+      → ((k : ℕ) (x : A) (y : B) → slice_get xs k ≡ Some x → slice_get ys k ≡ Some y → IsAlike x y)
+      → AllZip IsAlike xs ys
+  alike_places [] [] l h = tt
+  alike_places [] (y ∷ ys) l h = absurd (omega (arith, l))
+  alike_places (x ∷ xs) [] l h = absurd (omega (arith, l))
+  alike_places (x ∷ xs) (y ∷ ys) l h =
+      (h 0 x y refl refl, alike_places xs ys (omega (arith, l)) (λ k v w at there. h (suc k) v w at there))
+
 pub same_items : {A : Type 0} (xs ys : List A) → length xs ≡ length ys
     → ((k : ℕ) (x y : A) → slice_get xs k ≡ Some x → slice_get ys k ≡ Some y → x ≡ y) → xs ≡ ys
-same_items [] [] l h = refl
-same_items [] (y ∷ ys) l h = absurd (omega (arith, l))
-same_items (x ∷ xs) [] l h = absurd (omega (arith, l))
-same_items (x ∷ xs) (y ∷ ys) l h =
-    let first = h 0 x y refl refl in
-    let rest = same_items xs ys (omega (arith, l)) (λ k v w at there. h (suc k) v w at there) in
-    λ j. first j ∷ rest j
+same_items xs ys l h =
+    sym (each_same xs ys (alike_places (λ x y. y ≡ x) xs ys l (λ k x y at there. sym (h k x y at there))))
 
 -- what holds of all items holds of the one at a place
 pub there : {A : Type 0} (P : A → Type 0) (xs : List A) (k : ℕ) (x : A) → All P xs → slice_get xs k ≡ Some x → P x

@@ -1,6 +1,6 @@
 -- What is written for an answer: rows where its layout has them; else compact JSON, the members of an object in byte
 -- order, and one line end; or a page.
-use Rattle.std.specs.Prelude.{ℕ, ℤ, List, [], ◌∷◌, ◌++◌, map, flat_map, ◌==◌, if◌then◌else◌, Option, None, Some, codes}
+use Rattle.std.specs.Prelude.{ℕ, ℤ, pos, negsuc, Bool, List, [], ◌∷◌, ◌++◌, map, flat_map, ◌==◌, if◌then◌else◌, Option, None, Some, codes}
 use Rattle.serde_json.specs.Data.{Data, null, number, string, array, object, unsigned, no_items, item, Members, no_members, member}
 use Rattle.serde_json.specs.View.{items_of}
 use Rattle.serde_json.specs.Written.{compact_text}
@@ -14,12 +14,16 @@ use Rattle.tn_model.specs.declared.range.Range.{Range}
 use Rattle.tn_said.specs.declared.session.State.{State}
 use Rattle.tn_said.specs.declared.said.Fault.{Fault}
 use Rattle.tn_said.specs.declared.said.Shown.{Shown}
+use Rattle.tn_said.specs.declared.units.TradeUnits.{TradeUnits}
+use Rattle.tn_said.specs.declared.units.UnitStep.{UnitStep}
+use Rattle.tn_said.specs.declared.units.UnitHolding.{UnitHolding}
+use Rattle.tn_said.specs.declared.units.UnitRange.{UnitRange}
 use Rattle.tn_said.specs.declared.said.Said.{Said}
-use Rattle.tn_said.specs.declared.said.Said.TheVariants.{Usage, ReadFault, NoMemory, Fault as FaultIs, Equilibrium, Better, Impossible, Accepted, ExchangeFails, Supported, Cycle, Solved, SolvedByCounts, Drill, Ranges, Session, Drops, Completes, Blocks, Valid, Invalid, Cases, Page as PageIs, Firms}
+use Rattle.tn_said.specs.declared.said.Said.TheVariants.{Usage, ReadFault, NoMemory, Fault as FaultIs, Equilibrium, Better, BetterByCounts, Impossible, Accepted, ExchangeFails, Supported, SupportedByCounts, Cycle, CycleByCounts, Solved, SolvedByCounts, Drill, Ranges, RangesByCounts, Session, Drops, Completes, Blocks, Valid, Invalid, Cases, Page as PageIs, Firms, FirmsByCounts}
 use Rattle.tn_names.specs.Names.{NameLists}
 use Rattle.tn_answer.specs.Pages.{lines_text, page_lines}
 use Rattle.tn_answer.specs.ReasonText.{reason_members}
-use Rattle.tn_answer.specs.Rows.{each_from, deal_head, deal_row, firm_head, firm_row, on_flags, on_units, price_head, price_row, range_head, range_row, rows_text, table}
+use Rattle.tn_answer.specs.Rows.{each_from, deal_head, deal_row, firm_head, firm_row, on_flags, on_units, price_head, price_row, range_head, range_row, rows_text, table, unit_firm_row, unit_range_row}
 use Rattle.tn_answer.specs.Values.{name_data, names_data, option_data, integer_data, bound_data, numbers_data}
 use Rattle.tn_said.specs.Words.{word_text}
 use Rattle.tn_answer.specs.Words.{kind_name}
@@ -49,6 +53,13 @@ counts_from names k counts = flat_map (λ ds. ds) (each_from (count_items names)
 abbrev pub counts_data : List (List ℕ) → List ℕ → Data
 counts_data names counts = array (items_of (counts_from names 0 counts))
 
+-- a bundle of trades with units: how many beside the name of each of its trades
+abbrev pub entry_data : List (List ℕ) → TradeUnits → Data
+entry_data names entry = count_data names entry.trade entry.units
+
+abbrev pub bundle_data : List (List ℕ) → List TradeUnits → Data
+bundle_data names bundle = array (items_of (map (entry_data names) bundle))
+
 -- contracts: each a price beside the name of its trade
 abbrev pub contract_data : List (List ℕ) → Contract → Data
 contract_data names contract = price_data names contract.trade contract.price
@@ -60,16 +71,40 @@ contracts_data names contracts = array (items_of (map (contract_data names) cont
 abbrev pub nodes_data : List (List ℕ) → List (Option ℕ) → Data
 nodes_data names nodes = array (items_of (map (option_data names) nodes))
 
--- the prices that a trade may have, with its name, and those of all trades
+-- 1 for one more unit, -1 for one fewer
+abbrev pub direction : Bool → ℤ
+direction more = if more then pos 1 else negsuc 0
+
+-- nodes of an exchange graph of trades with units: which way beside the name of a trade, and null for the null node
+abbrev pub unit_step_data : List (List ℕ) → Option UnitStep → Data
+unit_step_data names None = null
+unit_step_data names (Some step) = price_data names step.trade (direction step.more)
+
+abbrev pub steps_data : List (List ℕ) → List (Option UnitStep) → Data
+steps_data names steps = array (items_of (map (unit_step_data names) steps))
+
+-- the bounds of a trade's price, the paths to them being given, with its name
+abbrev pub bounds_data : List (List ℕ) → ℕ → Option ℤ → Data → Option ℤ → Data → Data
+bounds_data names k low low_path high high_path =
+    object (member (codes "high") (bound_data high) (member (codes "high_path") high_path
+    (member (codes "low") (bound_data low) (member (codes "low_path") low_path
+    (member (codes "trade") (name_data names k) no_members)))))
+
+-- the prices that a trade may have, and those of all trades
 abbrev pub range_data : List (List ℕ) → ℕ → Range → Data
 range_data names k range =
-    object (member (codes "high") (bound_data range.high)
-    (member (codes "high_path") (nodes_data names range.high_path)
-    (member (codes "low") (bound_data range.low) (member (codes "low_path") (nodes_data names range.low_path)
-    (member (codes "trade") (name_data names k) no_members)))))
+    bounds_data names k range.low (nodes_data names range.low_path) range.high (nodes_data names range.high_path)
 
 abbrev pub ranges_data : List (List ℕ) → List Range → Data
 ranges_data names ranges = array (items_of (each_from (range_data names) 0 ranges))
+
+-- the same of trades with units
+abbrev pub unit_range_data : List (List ℕ) → ℕ → UnitRange → Data
+unit_range_data names k range =
+    bounds_data names k range.low (steps_data names range.low_path) range.high (steps_data names range.high_path)
+
+abbrev pub unit_ranges_data : List (List ℕ) → List UnitRange → Data
+unit_ranges_data names ranges = array (items_of (each_from (unit_range_data names) 0 ranges))
 
 -- an equilibrium of the admitted trades, and those after each of some changes
 abbrev pub state_data : List (List ℕ) → State → Data
@@ -81,18 +116,30 @@ state_data names state =
 abbrev pub states_data : List (List ℕ) → List State → Data
 states_data names states = array (items_of (map (state_data names) states))
 
--- what a firm has, with its name, and what each firm has
+-- what a firm has, its own bundle and a best one being given, with its name
+abbrev pub held_data : List (List ℕ) → ℕ → Data → Data → Option ℤ → Option ℤ → ℤ → Option ℤ → Data
+held_data firms k has best worth utility best_utility gain =
+    object (member (codes "best") best (member (codes "best_utility") (integer_data best_utility)
+    (member (codes "firm") (name_data firms k) (member (codes "gain") (bound_data gain) (member (codes "has") has
+    (member (codes "utility") (bound_data utility) (member (codes "worth") (bound_data worth) no_members)))))))
+
+-- what a firm has, and what each firm has
 abbrev pub holding_data : NameLists → ℕ → Holding → Data
 holding_data names k holding =
-    object (member (codes "best") (names_data names.trades holding.best)
-    (member (codes "best_utility") (integer_data holding.best_utility)
-    (member (codes "firm") (name_data names.firms k) (member (codes "gain") (bound_data holding.gain)
-    (member (codes "has") (names_data names.trades holding.has)
-    (member (codes "utility") (bound_data holding.utility)
-    (member (codes "worth") (bound_data holding.worth) no_members)))))))
+    held_data names.firms k (names_data names.trades holding.has) (names_data names.trades holding.best) holding.worth
+    holding.utility holding.best_utility holding.gain
 
 abbrev pub holdings_data : NameLists → List Holding → Data
 holdings_data names holdings = array (items_of (each_from (holding_data names) 0 holdings))
+
+-- the same of trades with units
+abbrev pub unit_holding_data : NameLists → ℕ → UnitHolding → Data
+unit_holding_data names k holding =
+    held_data names.firms k (bundle_data names.trades holding.has) (bundle_data names.trades holding.best) holding.worth
+    holding.utility holding.best_utility holding.gain
+
+abbrev pub unit_holdings_data : NameLists → List UnitHolding → Data
+unit_holdings_data names holdings = array (items_of (each_from (unit_holding_data names) 0 holdings))
 
 abbrev pub step_data : List (List ℕ) → PlaceStep → Data
 step_data trades (Key word) = string (word_text word)
@@ -136,6 +183,9 @@ answer_form names (Equilibrium surplus) =
 answer_form names (Better firm bundle gain) =
     json (answer (codes "better") (member (codes "bundle") (names_data names.trades bundle)
     (member (codes "firm") (name_data names.firms firm) (member (codes "gain") (integer_data gain) no_members))))
+answer_form names (BetterByCounts firm bundle gain) =
+    json (answer (codes "better") (member (codes "bundle") (bundle_data names.trades bundle)
+    (member (codes "firm") (name_data names.firms firm) (member (codes "gain") (integer_data gain) no_members))))
 answer_form names (Impossible firm) =
     json (answer (codes "impossible") (member (codes "firm") (name_data names.firms firm) no_members))
 answer_form names Accepted = json (answer (codes "accepted") no_members)
@@ -145,9 +195,14 @@ answer_form names (ExchangeFails firm x y at) =
     (member (codes "x") (names_data names.trades x) (member (codes "y") (names_data names.trades y) no_members)))))
 answer_form names (Supported on prices ends) =
     json (answer (codes "prices") (member (codes "prices") (prices_data names.trades prices) no_members))
+answer_form names (SupportedByCounts counts prices ends) =
+    json (answer (codes "prices") (member (codes "prices") (prices_data names.trades prices) no_members))
 answer_form names (Cycle nodes cost) =
     json (answer (codes "cycle") (member (codes "cost") (integer_data cost)
     (member (codes "nodes") (nodes_data names.trades nodes) no_members)))
+answer_form names (CycleByCounts nodes cost) =
+    json (answer (codes "cycle") (member (codes "cost") (integer_data cost)
+    (member (codes "nodes") (steps_data names.trades nodes) no_members)))
 answer_form names (Solved on prices surplus ends) =
     json (answer (codes "solved") (member (codes "on") (names_data names.trades on)
     (member (codes "prices") (prices_data names.trades prices)
@@ -163,6 +218,9 @@ answer_form names (Drill size start firms surplus) =
 answer_form names (Ranges on ranges ends) =
     json (answer (codes "ranges") (member (codes "on") (names_data names.trades on)
     (member (codes "ranges") (ranges_data names.trades ranges) no_members)))
+answer_form names (RangesByCounts counts ranges ends) =
+    json (answer (codes "ranges") (member (codes "on") (counts_data names.trades counts)
+    (member (codes "ranges") (unit_ranges_data names.trades ranges) no_members)))
 answer_form names (Session edits) =
     json (answer (codes "session") (member (codes "edits") (states_data names.trades edits) no_members))
 answer_form names (Drops firm keeps gain over) =
@@ -184,6 +242,10 @@ answer_form names (PageIs page) = lines (page_lines page)
 answer_form names (Firms content firms surplus) =
     json (answer (codes "firms") (member (codes "content") (number (unsigned content))
     (member (codes "firms") (holdings_data names firms) (member (codes "surplus") (bound_data surplus) no_members))))
+answer_form names (FirmsByCounts content firms surplus) =
+    json (answer (codes "firms") (member (codes "content") (number (unsigned content))
+    (member (codes "firms") (unit_holdings_data names firms)
+    (member (codes "surplus") (bound_data surplus) no_members))))
 
 -- the JSON value of a form, null where it is lines
 abbrev pub data_in : Form → Data
@@ -196,6 +258,8 @@ answer_data names said = data_in (answer_form names said)
 -- the table of an answer in a layout, none where the two have none
 abbrev pub answer_table : NameLists → Said → Layout → Option (List (List (List ℕ)))
 answer_table names (Supported on prices ends) Rows = Some (table deal_head (deal_row names (on_flags on) ends) prices)
+answer_table names (SupportedByCounts counts prices ends) Rows =
+    Some (table deal_head (deal_row names (on_units counts) ends) prices)
 answer_table names (Solved on prices surplus ends) Rows = Some (table price_head (price_row names (on_flags on)) prices)
 answer_table names (Solved on prices surplus ends) WideRows =
     Some (table deal_head (deal_row names (on_flags on) ends) prices)
@@ -203,8 +267,11 @@ answer_table names (SolvedByCounts counts prices surplus ends) Rows =
     Some (table price_head (price_row names (on_units counts)) prices)
 answer_table names (SolvedByCounts counts prices surplus ends) WideRows =
     Some (table deal_head (deal_row names (on_units counts) ends) prices)
-answer_table names (Ranges on ranges ends) Rows = Some (table range_head (range_row names on ends) ranges)
+answer_table names (Ranges on ranges ends) Rows = Some (table range_head (range_row names (on_flags on) ends) ranges)
+answer_table names (RangesByCounts counts ranges ends) Rows =
+    Some (table range_head (unit_range_row names (on_units counts) ends) ranges)
 answer_table names (Firms content firms surplus) Rows = Some (table firm_head (firm_row names) firms)
+answer_table names (FirmsByCounts content firms surplus) Rows = Some (table firm_head (unit_firm_row names) firms)
 answer_table names said layout = None
 
 -- a form as text: a JSON value is one compact line

@@ -1,5 +1,5 @@
 -- How far the text of an answer tells it.
-use Rattle.std.specs.Prelude.{◌≡◌, ℕ, List, [], length, map, All, IfSome, slice_get, Some, if◌then◌else◌}
+use Rattle.std.specs.Prelude.{◌≡◌, ℕ, ℤ, List, [], length, map, All, Option, IfSome, slice_get, None, Some, if◌then◌else◌}
 use Rattle.std.specs.List.{AllZip}
 use Rattle.tn_said.specs.declared.place.PlaceStep.{PlaceStep}
 use Rattle.tn_said.specs.declared.place.PlaceStep.TheVariants.{Key, Trade}
@@ -8,8 +8,12 @@ use Rattle.tn_said.specs.declared.holding.Holding.{Holding}
 use Rattle.tn_model.specs.declared.range.Range.{Range}
 use Rattle.tn_said.specs.declared.session.State.{State}
 use Rattle.tn_said.specs.declared.said.Fault.{Fault}
+use Rattle.tn_said.specs.declared.units.TradeUnits.{TradeUnits}
+use Rattle.tn_said.specs.declared.units.UnitStep.{UnitStep}
+use Rattle.tn_said.specs.declared.units.UnitHolding.{UnitHolding}
+use Rattle.tn_said.specs.declared.units.UnitRange.{UnitRange}
 use Rattle.tn_said.specs.declared.said.Said.{Said}
-use Rattle.tn_said.specs.declared.said.Said.TheVariants.{Usage, ReadFault, NoMemory, Fault as FaultIs, Equilibrium, Better, Impossible, Accepted, ExchangeFails, Supported, Cycle, Solved, SolvedByCounts, Drill, Ranges, Session, Drops, Completes, Blocks, Valid, Invalid, Cases, Page as PageIs, Firms}
+use Rattle.tn_said.specs.declared.said.Said.TheVariants.{Usage, ReadFault, NoMemory, Fault as FaultIs, Equilibrium, Better, BetterByCounts, Impossible, Accepted, ExchangeFails, Supported, SupportedByCounts, Cycle, CycleByCounts, Solved, SolvedByCounts, Drill, Ranges, RangesByCounts, Session, Drops, Completes, Blocks, Valid, Invalid, Cases, Page as PageIs, Firms, FirmsByCounts}
 use Rattle.tn_names.specs.Names.{NameLists, IsNameList}
 use Rattle.tn_said.specs.Words.{word_text}
 use Rattle.tn_names.specs.Named.{IsNamed, IsNamedStep, IsNamedTriple, HasShortIndex}
@@ -33,6 +37,21 @@ pub record IsNamedHolding (names : List (List ℕ)) (holding : Holding) : Type 0
   pub best : All (IsNamed names) holding.best
   pub has : All (IsNamed names) holding.has
 
+-- and so are those of trades with units
+abbrev pub IsNamedEntry : List (List ℕ) → TradeUnits → Type 0
+IsNamedEntry names entry = IsNamed names entry.trade
+
+abbrev pub IsNamedUnitStep : List (List ℕ) → Option UnitStep → Type 0
+IsNamedUnitStep names node = IfSome node (λ step. IsNamed names step.trade)
+
+pub record HasNamedSteps (names : List (List ℕ)) (range : UnitRange) : Type 0 where
+  pub high : All (IsNamedUnitStep names) range.high_path
+  pub low : All (IsNamedUnitStep names) range.low_path
+
+pub record IsNamedUnitHolding (names : List (List ℕ)) (holding : UnitHolding) : Type 0 where
+  pub best : All (IsNamedEntry names) holding.best
+  pub has : All (IsNamedEntry names) holding.has
+
 -- the ends are of trades that have a name, one for each of them, and are firms that have one
 pub record AreNamedEnds (names : NameLists) (ends : List Ends) : Type 0 where
   pub one_each : length ends ≡ length names.trades
@@ -48,13 +67,17 @@ IsNamedAnswer names (FaultIs fault) = All (IsNamedStep names.trades) fault.place
     × IfSome fault.shown (IsNamedTriple names.trades)
 IsNamedAnswer names (Equilibrium surplus) = Unit {0}
 IsNamedAnswer names (Better firm bundle gain) = IsNamed names.firms firm × All (IsNamed names.trades) bundle
+IsNamedAnswer names (BetterByCounts firm bundle gain) = IsNamed names.firms firm × All (IsNamedEntry names.trades) bundle
 IsNamedAnswer names (Impossible firm) = IsNamed names.firms firm
 IsNamedAnswer names Accepted = Unit {0}
 IsNamedAnswer names (ExchangeFails firm x y at) = IsNamed names.firms firm
     × IsNamedTriple names.trades (record { x = x; y = y; at = at })
 IsNamedAnswer names (Supported on prices ends) = All (IsNamed names.trades) on × (length prices ≡ length names.trades)
     × AreNamedEnds names ends
+IsNamedAnswer names (SupportedByCounts counts prices ends) = (length counts ≡ length names.trades)
+    × (length prices ≡ length names.trades) × AreNamedEnds names ends
 IsNamedAnswer names (Cycle nodes cost) = All (λ node. IfSome node (IsNamed names.trades)) nodes
+IsNamedAnswer names (CycleByCounts nodes cost) = All (IsNamedUnitStep names.trades) nodes
 IsNamedAnswer names (Solved on prices surplus ends) = All (IsNamed names.trades) on
     × (length prices ≡ length names.trades) × AreNamedEnds names ends
 IsNamedAnswer names (SolvedByCounts counts prices surplus ends) = (length counts ≡ length names.trades)
@@ -62,6 +85,8 @@ IsNamedAnswer names (SolvedByCounts counts prices surplus ends) = (length counts
 IsNamedAnswer names (Drill size start firms surplus) = Unit {0}
 IsNamedAnswer names (Ranges on ranges ends) = All (IsNamed names.trades) on × (length ranges ≡ length names.trades)
     × All (HasNamedPaths names.trades) ranges × AreNamedEnds names ends
+IsNamedAnswer names (RangesByCounts counts ranges ends) = (length counts ≡ length names.trades)
+    × (length ranges ≡ length names.trades) × All (HasNamedSteps names.trades) ranges × AreNamedEnds names ends
 IsNamedAnswer names (Session edits) = All (IsNamedState names.trades) edits
 IsNamedAnswer names (Drops firm keeps gain over) = IsNamed names.firms firm × All (IsNamed names.trades) keeps
 IsNamedAnswer names (Completes prices over) = length prices ≡ length names.trades
@@ -72,6 +97,8 @@ IsNamedAnswer names (Cases count failed) = Unit {0}
 IsNamedAnswer names (PageIs page) = Unit {0}
 IsNamedAnswer names (Firms content firms surplus) = (length firms ≡ length names.firms)
     × All (IsNamedHolding names.trades) firms
+IsNamedAnswer names (FirmsByCounts content firms surplus) = (length firms ≡ length names.firms)
+    × All (IsNamedUnitHolding names.trades) firms
 
 -- the numbers of an answer fit 64 bits, and so do the indices of a fault's place
 abbrev pub HasShortNumbers : Said → Type 0
@@ -94,8 +121,48 @@ pub record IsSameFault (trades : List (List ℕ)) (first second : Fault) : Type 
 abbrev pub HasNoUnits : List ℕ → Type 0
 HasNoUnits counts = All (λ n. n ≡ 0) counts
 
+-- neither of two bundles has a trade
+abbrev pub AreBothEmpty : {A B : Type 0} → List A → List B → Type 0
+AreBothEmpty xs ys = (xs ≡ []) × (ys ≡ [])
+
+-- neither of two nodes is a trade
+abbrev pub AreBothNull : Option ℕ → Option UnitStep → Type 0
+AreBothNull node step = (node ≡ None) × (step ≡ None)
+
+-- what a firm has is the same without units and with them: bundles without a trade
+pub record IsSameHolding (holding : Holding) (other : UnitHolding) : Type 0 where
+  pub best : AreBothEmpty holding.best other.best
+  pub best_utility : holding.best_utility ≡ other.best_utility
+  pub gain : holding.gain ≡ other.gain
+  pub has : AreBothEmpty holding.has other.has
+  pub utility : holding.utility ≡ other.utility
+  pub worth : holding.worth ≡ other.worth
+
+-- and so is what a trade's price may be: paths without a trade
+pub record IsSameRange (range : Range) (other : UnitRange) : Type 0 where
+  pub high : range.high ≡ other.high
+  pub high_path : AllZip AreBothNull range.high_path other.high_path
+  pub low : range.low ≡ other.low
+  pub low_path : AllZip AreBothNull range.low_path other.low_path
+
+-- an answer by trades and one by counts are written alike as objects: a support with the same prices, and others where
+-- the members that have trades by units have none, and all else is the same
+abbrev pub IsSameByCounts : Said → Said → Type 0
+IsSameByCounts (Better firm bundle gain) (BetterByCounts other other_bundle other_gain) = (firm ≡ other)
+    × AreBothEmpty bundle other_bundle × (gain ≡ other_gain)
+IsSameByCounts (Supported on prices ends) (SupportedByCounts counts other_prices other_ends) = prices ≡ other_prices
+IsSameByCounts (Cycle nodes cost) (CycleByCounts steps other_cost) = AllZip AreBothNull nodes steps
+    × (cost ≡ other_cost)
+IsSameByCounts (Solved on prices surplus ends) (SolvedByCounts counts other_prices other_surplus other_ends) =
+    (on ≡ []) × HasNoUnits counts × (prices ≡ other_prices) × (surplus ≡ other_surplus)
+IsSameByCounts (Ranges on ranges ends) (RangesByCounts counts other_ranges other_ends) = (on ≡ []) × HasNoUnits counts
+    × AllZip IsSameRange ranges other_ranges
+IsSameByCounts (Firms content firms surplus) (FirmsByCounts other_content other_firms other_surplus) =
+    (content ≡ other_content) × AllZip IsSameHolding firms other_firms × (surplus ≡ other_surplus)
+IsSameByCounts first second = ⊥
+
 -- answers are written alike as objects: two faults that are, or equal answers, but that an object doesn't tell the ends
--- of trades, nor a support its set; and where nothing goes, not whether that is said by trades or by counts
+-- of trades, nor a support its set or its counts; or one by trades and one by counts that are
 abbrev pub IsSameObject : NameLists → Said → Said → Type 0
 IsSameObject names (FaultIs first) (FaultIs second) = IsSameFault names.trades first second
 IsSameObject names (Supported on prices ends) (Supported others other_prices other_ends) = prices ≡ other_prices
@@ -104,12 +171,26 @@ IsSameObject names (Solved on prices surplus ends) (Solved others other_prices o
 IsSameObject names (SolvedByCounts counts prices surplus ends) (SolvedByCounts others other_prices other_surplus
     other_ends) =
     (counts ≡ others) × (prices ≡ other_prices) × (surplus ≡ other_surplus)
-IsSameObject names (Solved on prices surplus ends) (SolvedByCounts counts other_prices other_surplus other_ends) =
-    (on ≡ []) × HasNoUnits counts × (prices ≡ other_prices) × (surplus ≡ other_surplus)
-IsSameObject names (SolvedByCounts counts prices surplus ends) (Solved on other_prices other_surplus other_ends) =
-    (on ≡ []) × HasNoUnits counts × (prices ≡ other_prices) × (surplus ≡ other_surplus)
+IsSameObject names (SupportedByCounts counts prices ends) (SupportedByCounts others other_prices other_ends) =
+    prices ≡ other_prices
 IsSameObject names (Ranges on ranges ends) (Ranges others other_ranges other_ends) = (on ≡ others)
     × (ranges ≡ other_ranges)
+IsSameObject names (RangesByCounts counts ranges ends) (RangesByCounts others other_ranges other_ends) =
+    (counts ≡ others) × (ranges ≡ other_ranges)
+IsSameObject names (Better f x u) (BetterByCounts g y v) = IsSameByCounts (Better f x u) (BetterByCounts g y v)
+IsSameObject names (BetterByCounts g y v) (Better f x u) = IsSameByCounts (Better f x u) (BetterByCounts g y v)
+IsSameObject names (Supported x p e) (SupportedByCounts y q d) =
+    IsSameByCounts (Supported x p e) (SupportedByCounts y q d)
+IsSameObject names (SupportedByCounts y q d) (Supported x p e) =
+    IsSameByCounts (Supported x p e) (SupportedByCounts y q d)
+IsSameObject names (Cycle x c) (CycleByCounts y d) = IsSameByCounts (Cycle x c) (CycleByCounts y d)
+IsSameObject names (CycleByCounts y d) (Cycle x c) = IsSameByCounts (Cycle x c) (CycleByCounts y d)
+IsSameObject names (Solved x p s e) (SolvedByCounts y q t d) = IsSameByCounts (Solved x p s e) (SolvedByCounts y q t d)
+IsSameObject names (SolvedByCounts y q t d) (Solved x p s e) = IsSameByCounts (Solved x p s e) (SolvedByCounts y q t d)
+IsSameObject names (Ranges x r e) (RangesByCounts y s d) = IsSameByCounts (Ranges x r e) (RangesByCounts y s d)
+IsSameObject names (RangesByCounts y s d) (Ranges x r e) = IsSameByCounts (Ranges x r e) (RangesByCounts y s d)
+IsSameObject names (Firms m x s) (FirmsByCounts n y t) = IsSameByCounts (Firms m x s) (FirmsByCounts n y t)
+IsSameObject names (FirmsByCounts n y t) (Firms m x s) = IsSameByCounts (Firms m x s) (FirmsByCounts n y t)
 IsSameObject names first second = first ≡ second
 
 -- the same trades are on
@@ -125,17 +206,25 @@ pub record AreSameEnds (ends others : List Ends) : Type 0 where
   pub same_sellers : map (λ trade. trade.seller) ends ≡ map (λ trade. trade.seller) others
   pub same_buyers : map (λ trade. trade.buyer) ends ≡ map (λ trade. trade.buyer) others
 
--- each trade has the same lowest price, or none, and the same highest one
-pub record AreSameBounds (ranges others : List Range) : Type 0 where
-  pub same_lows : map (λ range. range.low) ranges ≡ map (λ range. range.low) others
-  pub same_highs : map (λ range. range.high) ranges ≡ map (λ range. range.high) others
+-- the lowest and the highest price of each trade, or none
+abbrev pub bounds_of : List Range → List (Option ℤ × Option ℤ)
+bounds_of ranges = map (λ range. (range.low, range.high)) ranges
+
+abbrev pub unit_bounds_of : List UnitRange → List (Option ℤ × Option ℤ)
+unit_bounds_of ranges = map (λ range. (range.low, range.high)) ranges
 
 -- answers are written alike as rows: they agree in what their columns say, or are written alike as objects. Rows don't
--- tell a surplus, nor the paths of a range, nor one unit of a trade from that it is on, and of the ends of trades only
--- those of a support and a range do
+-- tell a surplus, nor the paths of a range, nor one unit of a trade from that it is on, nor bundles without a trade from
+-- those without units, and of the ends of trades only those of a support and a range do
 abbrev pub IsSameInRows : NameLists → Said → Said → Type 0
 IsSameInRows names (Supported on prices ends) (Supported others other_prices other_ends) = AreSameOn on others
     × (prices ≡ other_prices) × AreSameEnds ends other_ends
+IsSameInRows names (SupportedByCounts counts prices ends) (SupportedByCounts others other_prices other_ends) =
+    (counts ≡ others) × (prices ≡ other_prices) × AreSameEnds ends other_ends
+IsSameInRows names (Supported on prices ends) (SupportedByCounts counts other_prices other_ends) =
+    AreUnitsOn on counts × (prices ≡ other_prices) × AreSameEnds ends other_ends
+IsSameInRows names (SupportedByCounts counts prices ends) (Supported on other_prices other_ends) =
+    AreUnitsOn on counts × (prices ≡ other_prices) × AreSameEnds ends other_ends
 IsSameInRows names (Solved on prices surplus ends) (Solved others other_prices other_surplus other_ends) =
     AreSameOn on others × (prices ≡ other_prices)
 IsSameInRows names (SolvedByCounts counts prices surplus ends) (SolvedByCounts others other_prices other_surplus
@@ -146,8 +235,20 @@ IsSameInRows names (Solved on prices surplus ends) (SolvedByCounts counts other_
 IsSameInRows names (SolvedByCounts counts prices surplus ends) (Solved on other_prices other_surplus other_ends) =
     AreUnitsOn on counts × (prices ≡ other_prices)
 IsSameInRows names (Ranges on ranges ends) (Ranges others other_ranges other_ends) = AreSameOn on others
-    × AreSameBounds ranges other_ranges × AreSameEnds ends other_ends
+    × (bounds_of ranges ≡ bounds_of other_ranges) × AreSameEnds ends other_ends
+IsSameInRows names (RangesByCounts counts ranges ends) (RangesByCounts others other_ranges other_ends) =
+    (counts ≡ others) × (unit_bounds_of ranges ≡ unit_bounds_of other_ranges) × AreSameEnds ends other_ends
+IsSameInRows names (Ranges on ranges ends) (RangesByCounts counts other_ranges other_ends) = AreUnitsOn on counts
+    × (bounds_of ranges ≡ unit_bounds_of other_ranges) × AreSameEnds ends other_ends
+IsSameInRows names (RangesByCounts counts ranges ends) (Ranges on other_ranges other_ends) = AreUnitsOn on counts
+    × (bounds_of other_ranges ≡ unit_bounds_of ranges) × AreSameEnds ends other_ends
 IsSameInRows names (Firms content firms surplus) (Firms other_content other_firms other_surplus) = firms ≡ other_firms
+IsSameInRows names (FirmsByCounts content firms surplus) (FirmsByCounts other_content other_firms other_surplus) =
+    firms ≡ other_firms
+IsSameInRows names (Firms content firms surplus) (FirmsByCounts other_content other_firms other_surplus) =
+    AllZip IsSameHolding firms other_firms
+IsSameInRows names (FirmsByCounts content firms surplus) (Firms other_content other_firms other_surplus) =
+    AllZip IsSameHolding other_firms firms
 IsSameInRows names first second = IsSameObject names first second
 
 -- and as wide rows, which tell the ends of trades too

@@ -6,7 +6,7 @@ use Rattle.tn_said.specs.declared.place.PlaceStep.TheVariants.{Key, Index, Trade
 use Rattle.tn_said.specs.declared.said.Shown.{Shown}
 use Rattle.tn_said.specs.declared.session.State.{State}
 use Rattle.tn_said.specs.declared.said.Said.{Said}
-use Rattle.tn_said.specs.declared.said.Said.TheVariants.{Usage, ReadFault, NoMemory, Fault as FaultIs, Equilibrium, Better, Impossible, Accepted, ExchangeFails, Supported, Cycle, Solved, SolvedByCounts, Drill, Ranges, Session, Drops, Completes, Blocks, Valid, Invalid, Cases, Page as PageIs, Firms}
+use Rattle.tn_said.specs.declared.said.Said.TheVariants.{Usage, ReadFault, NoMemory, Fault as FaultIs, Equilibrium, Better, BetterByCounts, Impossible, Accepted, ExchangeFails, Supported, SupportedByCounts, Cycle, CycleByCounts, Solved, SolvedByCounts, Drill, Ranges, RangesByCounts, Session, Drops, Completes, Blocks, Valid, Invalid, Cases, Page as PageIs, Firms, FirmsByCounts}
 use Rattle.tn_names.specs.Names.{NameLists}
 use Rattle.tn_answer.specs.ReasonText.{reason_names_nothing}
 use Rattle.tn_answer.specs.Sayable.{IsSayable}
@@ -46,15 +46,19 @@ names_nothing NoMemory = true
 names_nothing (FaultIs fault) = list_all names_no_trade_at fault.place && names_no_trade_in fault.shown
 names_nothing (Equilibrium surplus) = true
 names_nothing (Better firm bundle gain) = false
+names_nothing (BetterByCounts firm bundle gain) = false
 names_nothing (Impossible firm) = false
 names_nothing Accepted = true
 names_nothing (ExchangeFails firm x y at) = false
 names_nothing (Supported on prices ends) = is_empty prices
+names_nothing (SupportedByCounts counts prices ends) = is_empty prices
 names_nothing (Cycle nodes cost) = list_all is_none nodes
+names_nothing (CycleByCounts nodes cost) = list_all is_none nodes
 names_nothing (Solved on prices surplus ends) = are_none on && is_empty prices
 names_nothing (SolvedByCounts counts prices surplus ends) = has_no_units counts && is_empty prices
 names_nothing (Drill size start firms surplus) = true
 names_nothing (Ranges on ranges ends) = are_none on && is_empty ranges
+names_nothing (RangesByCounts counts ranges ends) = has_no_units counts && is_empty ranges
 names_nothing (Session edits) = list_all state_names_nothing edits
 names_nothing (Drops firm keeps gain over) = false
 names_nothing (Completes prices over) = is_empty prices
@@ -64,6 +68,7 @@ names_nothing (Invalid reason) = reason_names_nothing reason
 names_nothing (Cases count failed) = true
 names_nothing (PageIs page) = true
 names_nothing (Firms content firms surplus) = is_empty firms
+names_nothing (FirmsByCounts content firms surplus) = is_empty firms
 
 -- the text of such an answer is the same over any names, in each layout
 abbrev pub NeedsNoNames : Type 0

@@ -8,6 +8,9 @@ use Rattle.csv.specs.declared.writer.WriterBuilder.{WriterBuilder}
 use Rattle.tn_model.specs.declared.ends.Ends.{Ends}
 use Rattle.tn_said.specs.declared.holding.Holding.{Holding}
 use Rattle.tn_model.specs.declared.range.Range.{Range}
+use Rattle.tn_said.specs.declared.units.TradeUnits.{TradeUnits}
+use Rattle.tn_said.specs.declared.units.UnitHolding.{UnitHolding}
+use Rattle.tn_said.specs.declared.units.UnitRange.{UnitRange}
 use Rattle.tn_names.specs.Names.{NameLists}
 
 -- what a function of the number and the item makes of each item, the first one being number k
@@ -50,10 +53,21 @@ abbrev pub bound_text : Option ℤ → List ℕ
 bound_text None = []
 bound_text (Some z) = signed_decimal z
 
--- the names with some numbers, with a blank between each two
+-- the texts of some items, with a blank between each two
+abbrev pub spaced_text : {A : Type 0} → (A → List ℕ) → List A → List ℕ
+spaced_text text [] = []
+spaced_text text (x ∷ xs) = text x ++ flat_map (λ y. 32 ∷ text y) xs
+
+-- the names with some numbers
 abbrev pub bundle_text : List (List ℕ) → List ℕ → List ℕ
-bundle_text names [] = []
-bundle_text names (k ∷ ks) = name_text names k ++ flat_map (λ j. 32 ∷ name_text names j) ks
+bundle_text names ks = spaced_text (name_text names) ks
+
+-- the name of a trade, a colon, and how many units of it, and those of a bundle
+abbrev pub entry_text : List (List ℕ) → TradeUnits → List ℕ
+entry_text names entry = name_text names entry.trade ++ 58 ∷ decimal entry.units
+
+abbrev pub unit_bundle_text : List (List ℕ) → List TradeUnits → List ℕ
+unit_bundle_text names bundle = spaced_text (entry_text names) bundle
 
 -- the names of a trade's seller and buyer
 abbrev pub seller_text : List (List ℕ) → Option Ends → List ℕ
@@ -86,21 +100,36 @@ deal_row names on ends k price =
 abbrev pub range_head : List (List ℕ)
 range_head = codes "trade" ∷ codes "seller" ∷ codes "buyer" ∷ codes "on" ∷ codes "low" ∷ codes "high" ∷ []
 
-abbrev pub range_row : NameLists → List ℕ → List Ends → ℕ → Range → List (List ℕ)
-range_row names on ends k range =
+abbrev pub bounds_row : NameLists → (ℕ → List ℕ) → List Ends → ℕ → Option ℤ → Option ℤ → List (List ℕ)
+bounds_row names on ends k low high =
     name_text names.trades k ∷ seller_text names.firms (slice_get ends k) ∷ buyer_text names.firms (slice_get ends k) ∷
-    flag_text (is_listed on k) ∷ bound_text range.low ∷ bound_text range.high ∷ []
+    on k ∷ bound_text low ∷ bound_text high ∷ []
 
--- and the row of a firm: its name, whether it is content, and what it has
+abbrev pub range_row : NameLists → (ℕ → List ℕ) → List Ends → ℕ → Range → List (List ℕ)
+range_row names on ends k range = bounds_row names on ends k range.low range.high
+
+abbrev pub unit_range_row : NameLists → (ℕ → List ℕ) → List Ends → ℕ → UnitRange → List (List ℕ)
+unit_range_row names on ends k range = bounds_row names on ends k range.low range.high
+
+-- and the row of a firm: its name, whether it is content, and what it has, its own bundle and a best one being given
 abbrev pub firm_head : List (List ℕ)
 firm_head = codes "firm" ∷ codes "content" ∷ codes "worth" ∷ codes "utility" ∷ codes "best_utility" ∷ codes "gain" ∷
     codes "has" ∷ codes "best" ∷ []
 
+abbrev pub held_row : List (List ℕ) → ℕ → List ℕ → List ℕ → Option ℤ → Option ℤ → ℤ → Option ℤ → List (List ℕ)
+held_row firms k has best worth utility best_utility gain =
+    name_text firms k ∷ flag_text (is_nothing gain) ∷ bound_text worth ∷ bound_text utility ∷ signed_decimal
+    best_utility ∷ bound_text gain ∷ has ∷ best ∷ []
+
 abbrev pub firm_row : NameLists → ℕ → Holding → List (List ℕ)
 firm_row names k holding =
-    name_text names.firms k ∷ flag_text (is_nothing holding.gain) ∷ bound_text holding.worth ∷ bound_text
-    holding.utility ∷ signed_decimal holding.best_utility ∷ bound_text holding.gain
-    ∷ bundle_text names.trades holding.has ∷ bundle_text names.trades holding.best ∷ []
+    held_row names.firms k (bundle_text names.trades holding.has) (bundle_text names.trades holding.best) holding.worth
+    holding.utility holding.best_utility holding.gain
+
+abbrev pub unit_firm_row : NameLists → ℕ → UnitHolding → List (List ℕ)
+unit_firm_row names k holding =
+    held_row names.firms k (unit_bundle_text names.trades holding.has) (unit_bundle_text names.trades holding.best)
+    holding.worth holding.utility holding.best_utility holding.gain
 
 -- ---- tables
 

@@ -5,7 +5,7 @@ ghost use Rattle.std.specs.Int.{w64};
 ghost use Rattle.csv.specs.Records.{fields_of};
 ghost use Rattle.csv.specs.Writing.{default_writer, fields_written, has_written, row_text, text_written, writer_setup};
 ghost use Rattle.tn_answer.specs.Cells.{IsShortCell, cell_text};
-ghost use Rattle.tn_answer.specs.Rows.{IsBetweenRows, bound_text, bundle_text, flag_text};
+ghost use Rattle.tn_answer.specs.Rows.{IsBetweenRows, bound_text, bundle_text, entry_text, flag_text, unit_bundle_text};
 
 use crate::values::name_at;
 use csv::{ByteRecord, Writer};
@@ -13,6 +13,7 @@ use std::alloc::Global;
 use tn_base::OutOfMemory;
 use tn_model::Trades;
 use tn_names::Names;
+use tn_said::{TradeUnits, UnitBundle};
 
 /// A field of a row.
 #[derive(Clone, Copy)]
@@ -26,6 +27,8 @@ pub(crate) enum Cell<'a> {
     Bound(Option<i128>),
     /// The names of trades, with a blank between each two.
     Bundle(&'a Trades),
+    /// The same with a colon and how many units behind each name.
+    UnitBundle(&'a UnitBundle),
 }
 
 fn flag_text(flag: bool) -> &'static str
@@ -76,6 +79,32 @@ fn bundle_text(alloc: Global, names: &Names, trades: &Trades) -> Result<String, 
     Ok(text)
 }
 
+/// The name of a trade, a colon, and how many units of it.
+fn entry_text(alloc: Global, names: &Names, entry: TradeUnits) -> Result<String, OutOfMemory>
+    ensures { IfOk result (λ text. string_bytes text ≡ entry_text names.now.trades entry) }
+{
+    let mut text = String::from_str(alloc, name_at(names, entry.trade as usize))?;
+    text.push_str(":")?;
+    text.push_str(&natural_text(alloc, entry.units)?)?;
+    Ok(text)
+}
+
+/// The trades of a bundle with how many units of each, with a blank between each two.
+fn unit_bundle_text(
+    alloc: Global,
+    names: &Names,
+    bundle: &UnitBundle,
+) -> Result<String, OutOfMemory>
+    ensures { IfOk result (λ text. string_bytes text ≡ unit_bundle_text names.now.trades bundle.now) }
+{
+    let mut text = String::new(alloc);
+    for k in 0..bundle.len() {
+        text.push_str(blank_before(k))?;
+        text.push_str(&entry_text(alloc, names, bundle.at(k))?)?;
+    }
+    Ok(text)
+}
+
 fn cell_text(alloc: Global, names: &Names, cell: &Cell) -> Result<String, OutOfMemory>
     requires { IsShortCell cell.now }
     ensures { IfOk result (λ text. string_bytes text ≡ cell_text names.now cell.now) }
@@ -87,6 +116,7 @@ fn cell_text(alloc: Global, names: &Names, cell: &Cell) -> Result<String, OutOfM
         Cell::Number(number) => number_text(alloc, *number),
         Cell::Bound(bound) => bound_text(alloc, *bound),
         Cell::Bundle(trades) => bundle_text(alloc, names, trades),
+        Cell::UnitBundle(bundle) => unit_bundle_text(alloc, names, bundle),
     }
 }
 

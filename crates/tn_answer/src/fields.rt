@@ -17,7 +17,7 @@ use serde_json::{Map, Value};
 use std::alloc::{AllocError, Global};
 use tn_model::{Contracts, Nodes, Prices, Trades};
 use tn_names::Names;
-use tn_said::{Counts, Numbers, Place};
+use tn_said::{Counts, Numbers, Place, UnitBundle, UnitSteps};
 
 /// What stands beside a key of an answer. Lists of ranges and of states are no fields, since each of their items is an
 /// object of fields: the calls would go in a circle.
@@ -38,6 +38,10 @@ pub(crate) enum Field<'a> {
     Nodes(&'a Nodes),
     /// Of each trade that has units, its name beside how many.
     Counts(&'a Counts),
+    /// Of each of its trades its name beside how many.
+    UnitBundle(&'a UnitBundle),
+    /// Of each the name of its trade beside which way.
+    Steps(&'a UnitSteps),
     /// Each beside the name of its trade.
     Prices(&'a Prices),
     /// Each price beside the name of its trade.
@@ -72,6 +76,8 @@ fn field_value(alloc: Global, names: &Names, field: &Field) -> Result<Value, All
         Field::Trades(trades) => array_of(alloc, names, *trades),
         Field::Nodes(nodes) => array_of(alloc, names, *nodes),
         Field::Counts(counts) => counts_value(alloc, names, counts),
+        Field::UnitBundle(bundle) => array_of(alloc, names, *bundle),
+        Field::Steps(steps) => array_of(alloc, names, *steps),
         Field::Prices(prices) => array_of(alloc, names, *prices),
         Field::Contracts(contracts) => array_of(alloc, names, *contracts),
         Field::Numbers(numbers) => numbers_value(alloc, numbers),

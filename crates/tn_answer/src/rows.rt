@@ -1,12 +1,12 @@
 //! The answers that have rows, as rows.
 
-ghost use Rattle.std.specs.Prelude.{◌≡◌, ℕ, List, ◌++◌, All, Some, IfOk, OnOk, FitsSigned, slice_get};
+ghost use Rattle.std.specs.Prelude.{◌≡◌, ℕ, List, ◌∷◌, ◌++◌, All, Some, IfOk, IfSome, OnOk, FitsSigned, slice_get};
 ghost use Rattle.std.specs.Int.{w64};
 ghost use Rattle.csv.specs.Writing.{default_writer, fields_written, has_written, row_text, text_written, writer_setup};
 ghost use Rattle.tn_answer.specs.Cells.{IsShortCell, cell_text, on_text};
-ghost use Rattle.tn_answer.specs.Rows.{IsBetweenRows, buyer_text, deal_head, deal_row, firm_head, firm_row, is_listed, is_nothing, price_head, price_row, range_head, range_row, rows_text, seller_text, table, units_of};
+ghost use Rattle.tn_answer.specs.Rows.{IsBetweenRows, bounds_row, buyer_text, deal_head, deal_row, firm_head, firm_row, is_listed, is_nothing, price_head, price_row, range_head, rows_text, seller_text, table, unit_firm_row, units_of};
 ghost use Rattle.tn_names.specs.Names.{NameLists};
-ghost use Rattle.tn_answer.specs.Sayable.{HasShortBounds, IsShortHolding};
+ghost use Rattle.tn_answer.specs.Sayable.{IsShortHolding, IsShortUnitHolding};
 
 use crate::cells::{Cell, write_row};
 use crate::holdings::firm_name_at;
@@ -15,9 +15,9 @@ use crate::values::{firm_name, name_at};
 use csv::Writer;
 use std::alloc::Global;
 use tn_base::OutOfMemory;
-use tn_model::{Prices, Range, Ranges, TradeEnds, Trades};
+use tn_model::{Prices, Ranges, TradeEnds, Trades};
 use tn_names::Names;
-use tn_said::{Counts, Holding, Holdings};
+use tn_said::{Counts, Holding, Holdings, UnitHolding, UnitHoldings, UnitRanges};
 
 /// Whether a list has a number.
 fn is_listed(on: &Trades, k: usize) -> bool
@@ -253,49 +253,63 @@ pub(crate) fn deal_rows<'a>(
     table_text(alloc, names, &head, &DealRows { on, prices, ends })
 }
 
+/// The lowest and the highest price that a trade may have.
+#[derive(Clone, Copy)]
+struct Bounds {
+    /// The lowest price, if there is one.
+    low: Option<i128>,
+    /// The highest price, if there is one.
+    high: Option<i128>,
+}
+
 /// Writes the row of a trade with its ends and the prices that it may have.
-fn write_range(
+fn write_bounds<'a>(
     alloc: Global,
     writer: &mut Writer<Vec<u8>>,
-    names: &Names,
-    on: &Trades,
+    names: &'a Names,
+    on: OnColumn<'a>,
     ends: &TradeEnds,
     k: usize,
-    range: &Range,
+    bounds: Bounds,
 ) -> Result<(), OutOfMemory>
-    requires { HasShortBounds range.now }
+    requires high { IfSome bounds.high (FitsSigned w64) }
+    requires low { IfSome bounds.low (FitsSigned w64) }
     ensures { (text : List ℕ)
         → IsBetweenRows (text_written (λ v. Some v.items) writer.old) (writer_setup writer.old)
         (fields_written writer.old) (has_written writer.old) text
         → OnOk result (IsBetweenRows (text_written (λ v. Some v.items) writer.new) (writer_setup writer.new)
-        (fields_written writer.new) (has_written writer.new)
-        (text ++ row_text default_writer (range_row names.now on.now ends.now k range.now))) }
+        (fields_written writer.new) (has_written writer.new) (text ++ row_text default_writer
+        (bounds_row names.now (on_text on.entry) ends.now k bounds.low bounds.high))) }
 {
     let row = [
         Cell::Name(name_at(names, k)),
         Cell::Name(seller_at(names, ends, k)),
         Cell::Name(buyer_at(names, ends, k)),
-        Cell::Flag(is_listed(on, k)),
-        Cell::Bound(range.low),
-        Cell::Bound(range.high),
+        on_cell(on, k),
+        Cell::Bound(bounds.low),
+        Cell::Bound(bounds.high),
     ];
     write_row(alloc, writer, names, &row)
 }
 
 /// The trades with their ends and the prices that they may have.
 #[derive(Clone, Copy)]
-struct RangeRows<'a> {
-    on: &'a Trades,
-    ranges: &'a Ranges,
-    ends: &'a TradeEnds,
+pub(crate) struct RangeRows<'a> {
+    /// The trades that are on.
+    pub on: &'a Trades,
+    /// What each price may be.
+    pub ranges: &'a Ranges,
+    /// The ends of each trade.
+    pub ends: &'a TradeEnds,
 }
 
 impl Table for RangeRows<'_> {
     ghost use Rattle.std.specs.Prelude.{All};
-    ghost use Rattle.tn_answer.specs.Rows.{each_from, range_row};
+    ghost use Rattle.tn_answer.specs.Rows.{each_from, on_flags, range_row};
     ghost use Rattle.tn_answer.specs.Sayable.{HasShortBounds};
 
-    ghost rows = { λ names table. each_from (range_row names table.on.now table.ends.now) 0 table.ranges.now };
+    ghost rows = { λ names table. each_from (range_row names (on_flags table.on.now) table.ends.now) 0
+        table.ranges.now };
 
     ghost IsShort = { λ table. All HasShortBounds table.ranges.now };
 
@@ -310,29 +324,66 @@ impl Table for RangeRows<'_> {
         names: &Names,
         k: usize,
     ) -> Result<(), OutOfMemory> {
-        write_range(
-            alloc,
-            writer,
-            names,
-            self.on,
-            self.ends,
-            k,
-            self.ranges.at(k),
-        )
+        let range = self.ranges.at(k);
+        let bounds = Bounds {
+            low: range.low,
+            high: range.high,
+        };
+        let on = OnColumn::Flags(self.on);
+        write_bounds(alloc, writer, names, on, self.ends, k, bounds)
     }
 }
 
-/// Each trade with the prices that it may have.
-pub(crate) fn range_rows<'a>(
+/// The trades with units, with their ends and the prices that they may have.
+#[derive(Clone, Copy)]
+pub(crate) struct UnitRangeRows<'a> {
+    /// How many units of each trade go.
+    pub counts: &'a Counts,
+    /// What each price may be.
+    pub ranges: &'a UnitRanges,
+    /// The ends of each trade.
+    pub ends: &'a TradeEnds,
+}
+
+impl Table for UnitRangeRows<'_> {
+    ghost use Rattle.std.specs.Prelude.{All};
+    ghost use Rattle.tn_answer.specs.Rows.{each_from, on_units, unit_range_row};
+    ghost use Rattle.tn_answer.specs.Sayable.{HasShortUnitBounds};
+
+    ghost rows = { λ names table. each_from (unit_range_row names (on_units table.counts.now) table.ends.now) 0
+        table.ranges.now };
+
+    ghost IsShort = { λ table. All HasShortUnitBounds table.ranges.now };
+
+    fn count(&self) -> usize {
+        self.ranges.len()
+    }
+
+    fn write_at(
+        &self,
+        alloc: Global,
+        writer: &mut Writer<Vec<u8>>,
+        names: &Names,
+        k: usize,
+    ) -> Result<(), OutOfMemory> {
+        let range = self.ranges.at(k);
+        let bounds = Bounds {
+            low: range.low,
+            high: range.high,
+        };
+        let on = OnColumn::Units(self.counts);
+        write_bounds(alloc, writer, names, on, self.ends, k, bounds)
+    }
+}
+
+/// Each trade of a table with the prices that it may have.
+pub(crate) fn range_rows<T: Table>(
     alloc: Global,
     names: &Names,
-    on: &'a Trades,
-    ranges: &'a Ranges,
-    ends: &'a TradeEnds,
+    ranges: &T,
 ) -> Result<Vec<u8>, OutOfMemory>
-    requires { All HasShortBounds ranges.now }
-    ensures { IfOk result (λ text. text.items ≡ rows_text
-        (table range_head (range_row names.now on.now ends.now) ranges.now)) }
+    requires { T.IsShort ranges.now }
+    ensures { IfOk result (λ text. text.items ≡ rows_text (range_head ∷ T.rows names.now ranges.now)) }
 {
     let head = [
         Cell::Name("trade"),
@@ -342,7 +393,7 @@ pub(crate) fn range_rows<'a>(
         Cell::Name("low"),
         Cell::Name("high"),
     ];
-    table_text(alloc, names, &head, &RangeRows { on, ranges, ends })
+    table_text(alloc, names, &head, ranges)
 }
 
 /// Writes the row of a firm with what it has.
@@ -398,14 +449,67 @@ impl Table for Holdings {
     }
 }
 
-/// Each firm with what it has, and which bundle it would rather have.
-pub(crate) fn firm_rows(
+/// Writes the row of a firm with what it has of trades with units.
+fn write_unit_firm<'a>(
+    alloc: Global,
+    writer: &mut Writer<Vec<u8>>,
+    names: &'a Names,
+    k: usize,
+    holding: &'a UnitHolding,
+) -> Result<(), OutOfMemory>
+    requires { IsShortUnitHolding holding.now }
+    ensures { (text : List ℕ)
+        → IsBetweenRows (text_written (λ v. Some v.items) writer.old) (writer_setup writer.old)
+        (fields_written writer.old) (has_written writer.old) text
+        → OnOk result (IsBetweenRows (text_written (λ v. Some v.items) writer.new) (writer_setup writer.new)
+        (fields_written writer.new) (has_written writer.new)
+        (text ++ row_text default_writer (unit_firm_row names.now k holding.now))) }
+{
+    let row = [
+        Cell::Name(firm_name_at(names, k)),
+        Cell::Flag(is_nothing(holding.gain)),
+        Cell::Bound(holding.worth),
+        Cell::Bound(holding.utility),
+        Cell::Number(holding.best_utility),
+        Cell::Bound(holding.gain),
+        Cell::UnitBundle(&holding.has),
+        Cell::UnitBundle(&holding.best),
+    ];
+    write_row(alloc, writer, names, &row)
+}
+
+impl Table for UnitHoldings {
+    ghost use Rattle.std.specs.Prelude.{All};
+    ghost use Rattle.tn_answer.specs.Rows.{each_from, unit_firm_row};
+    ghost use Rattle.tn_answer.specs.Sayable.{IsShortUnitHolding};
+
+    ghost rows = { λ names firms. each_from (unit_firm_row names) 0 firms };
+
+    ghost IsShort = { All IsShortUnitHolding };
+
+    fn count(&self) -> usize {
+        self.len()
+    }
+
+    fn write_at(
+        &self,
+        alloc: Global,
+        writer: &mut Writer<Vec<u8>>,
+        names: &Names,
+        k: usize,
+    ) -> Result<(), OutOfMemory> {
+        write_unit_firm(alloc, writer, names, k, self.at(k))
+    }
+}
+
+/// Each firm of a table with what it has, and which bundle it would rather have.
+pub(crate) fn firm_rows<T: Table>(
     alloc: Global,
     names: &Names,
-    firms: &Holdings,
+    firms: &T,
 ) -> Result<Vec<u8>, OutOfMemory>
-    requires { All IsShortHolding firms.now }
-    ensures { IfOk result (λ text. text.items ≡ rows_text (table firm_head (firm_row names.now) firms.now)) }
+    requires { T.IsShort firms.now }
+    ensures { IfOk result (λ text. text.items ≡ rows_text (firm_head ∷ T.rows names.now firms.now)) }
 {
     let head = [
         Cell::Name("firm"),

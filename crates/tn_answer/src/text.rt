@@ -9,7 +9,9 @@ ghost use Rattle.tn_answer.specs.Sayable.{IsSayable};
 
 use crate::layout::Layout;
 use crate::pages::page_lines;
-use crate::rows::{OnColumn, deal_rows, firm_rows, price_rows, range_rows};
+use crate::rows::{
+    OnColumn, RangeRows, UnitRangeRows, deal_rows, firm_rows, price_rows, range_rows,
+};
 use crate::values::answer_value;
 use std::alloc::Global;
 use tn_base::OutOfMemory;
@@ -61,8 +63,28 @@ fn text_in_rows(alloc: Global, names: &Names, said: &Said) -> Result<Vec<u8>, Ou
         Said::Supported { on, prices, ends } => {
             deal_rows(alloc, names, OnColumn::Flags(on), prices, ends)
         }
-        Said::Ranges { on, ranges, ends } => range_rows(alloc, names, on, ranges, ends),
+        Said::SupportedByCounts {
+            counts,
+            prices,
+            ends,
+        } => deal_rows(alloc, names, OnColumn::Units(counts), prices, ends),
+        Said::Ranges { on, ranges, ends } => {
+            range_rows(alloc, names, &RangeRows { on, ranges, ends })
+        }
+        Said::RangesByCounts {
+            counts,
+            ranges,
+            ends,
+        } => {
+            let table = UnitRangeRows {
+                counts,
+                ranges,
+                ends,
+            };
+            range_rows(alloc, names, &table)
+        }
         Said::Firms { firms, .. } => firm_rows(alloc, names, firms),
+        Said::FirmsByCounts { firms, .. } => firm_rows(alloc, names, firms),
         said => object_text(alloc, names, said),
     }
 }

@@ -8,18 +8,21 @@ ghost use Rattle.serde_json.specs.Data.{no_members};
 ghost use Rattle.serde_json.specs.View.{view};
 ghost use Rattle.tn_answer.specs.AnswerText.{answer, answer_data, fault_data, price_data, step_data};
 ghost use Rattle.tn_answer.specs.Values.{name_data, option_data};
-ghost use Rattle.tn_answer.specs.Sayable.{HasShortBounds, IsSayable, IsShortState};
+ghost use Rattle.tn_answer.specs.Sayable.{HasShortBounds, HasShortUnitBounds, IsSayable, IsShortState};
 
 use crate::arrays::Items;
 use crate::fields::{Field, answer_of, object_with};
-use crate::holdings::firms_value;
+use crate::holdings::{firms_by_counts_value, firms_value};
 use crate::reasons::invalid_value;
 use crate::words::kind_name;
 use serde_json::{Value, json};
 use std::alloc::{AllocError, Global};
 use tn_model::{Contracts, Nodes, Prices, Ranges, Trades};
 use tn_names::Names;
-use tn_said::{Counts, Fault, Numbers, Place, PlaceStep, Said, Shown, States};
+use tn_said::{
+    Counts, Fault, Numbers, Place, PlaceStep, Said, Shown, States, UnitBundle, UnitRanges,
+    UnitSteps,
+};
 
 pub(crate) fn answer_value(alloc: Global, names: &Names, said: &Said) -> Result<Value, AllocError>
     requires { IsSayable said.now }
@@ -32,13 +35,18 @@ pub(crate) fn answer_value(alloc: Global, names: &Names, said: &Said) -> Result<
         Said::Fault(fault) => fault_value(alloc, names, fault),
         Said::Equilibrium { surplus } => equilibrium_value(alloc, names, *surplus),
         Said::Better { firm, bundle, gain } => better_value(alloc, names, *firm, bundle, *gain),
+        Said::BetterByCounts { firm, bundle, gain } => {
+            better_by_counts_value(alloc, names, *firm, bundle, *gain)
+        }
         Said::Impossible { firm } => impossible_value(alloc, names, *firm),
         Said::Accepted => plain_value(alloc, names, "accepted"),
         Said::ExchangeFails { firm, x, y, at } => {
             exchange_fails_value(alloc, names, *firm, x, y, *at)
         }
         Said::Supported { prices, .. } => supported_value(alloc, names, prices),
+        Said::SupportedByCounts { prices, .. } => supported_value(alloc, names, prices),
         Said::Cycle { nodes, cost } => cycle_value(alloc, names, nodes, *cost),
+        Said::CycleByCounts { nodes, cost } => cycle_by_counts_value(alloc, names, nodes, *cost),
         Said::Solved {
             on,
             prices,
@@ -60,6 +68,9 @@ pub(crate) fn answer_value(alloc: Global, names: &Names, said: &Said) -> Result<
             surplus,
         } => drill_value(alloc, names, *size, *start, *firms, *surplus),
         Said::Ranges { on, ranges, .. } => ranged_value(alloc, names, on, ranges),
+        Said::RangesByCounts { counts, ranges, .. } => {
+            ranged_by_counts_value(alloc, names, counts, ranges)
+        }
         Said::Session { edits } => session_value(alloc, names, edits),
         Said::Drops {
             firm,
@@ -77,6 +88,11 @@ pub(crate) fn answer_value(alloc: Global, names: &Names, said: &Said) -> Result<
             firms,
             surplus,
         } => firms_value(alloc, names, *content, firms, *surplus),
+        Said::FirmsByCounts {
+            content,
+            firms,
+            surplus,
+        } => firms_by_counts_value(alloc, names, *content, firms, *surplus),
     }
 }
 
@@ -155,6 +171,25 @@ fn better_value(
     answer_of(alloc, names, "better", &fields)
 }
 
+fn better_by_counts_value(
+    alloc: Global,
+    names: &Names,
+    firm: u32,
+    bundle: &UnitBundle,
+    gain: i128,
+) -> Result<Value, AllocError>
+    requires { FitsSigned w64 gain }
+    ensures { IfOk result
+        (λ value. view value ≡ answer_data names.now (Said.BetterByCounts firm bundle.now gain)) }
+{
+    let fields = [
+        ("bundle", Field::UnitBundle(bundle)),
+        ("firm", Field::Firm(firm)),
+        ("gain", Field::Number(gain)),
+    ];
+    answer_of(alloc, names, "better", &fields)
+}
+
 fn impossible_value(alloc: Global, names: &Names, firm: u32) -> Result<Value, AllocError>
     ensures { IfOk result (λ value. view value ≡ answer_data names.now (Said.Impossible firm)) }
 {
@@ -199,6 +234,23 @@ fn cycle_value(alloc: Global, names: &Names, nodes: &Nodes, cost: i128) -> Resul
     let fields = [
         ("cost", Field::Number(cost)),
         ("nodes", Field::Nodes(nodes)),
+    ];
+    answer_of(alloc, names, "cycle", &fields)
+}
+
+fn cycle_by_counts_value(
+    alloc: Global,
+    names: &Names,
+    nodes: &UnitSteps,
+    cost: i128,
+) -> Result<Value, AllocError>
+    requires { FitsSigned w64 cost }
+    ensures { IfOk result
+        (λ value. view value ≡ answer_data names.now (Said.CycleByCounts nodes.now cost)) }
+{
+    let fields = [
+        ("cost", Field::Number(cost)),
+        ("nodes", Field::Steps(nodes)),
     ];
     answer_of(alloc, names, "cycle", &fields)
 }
@@ -275,6 +327,23 @@ fn ranged_value(
         (λ value. view value ≡ answer_data names.now (Said.Ranges on.now ranges.now [])) }
 {
     let fields = [("answer", Field::Word("ranges")), ("on", Field::Trades(on))];
+    object_with(alloc, names, &fields, "ranges", ranges)
+}
+
+fn ranged_by_counts_value(
+    alloc: Global,
+    names: &Names,
+    counts: &Counts,
+    ranges: &UnitRanges,
+) -> Result<Value, AllocError>
+    requires { All HasShortUnitBounds ranges.now }
+    ensures { IfOk result
+        (λ value. view value ≡ answer_data names.now (Said.RangesByCounts counts.now ranges.now [])) }
+{
+    let fields = [
+        ("answer", Field::Word("ranges")),
+        ("on", Field::Counts(counts)),
+    ];
     object_with(alloc, names, &fields, "ranges", ranges)
 }
 
