@@ -9,7 +9,7 @@ use Rattle.json.specs.Print.{escape, escape_byte, escape_letter, quoted}
 use Rattle.serde_json.specs.Data.{Data, Items, Members, Num, array, boolean, float, item, member, negative, no_items, no_members, null, number, object, string, unsigned}
 use Rattle.serde_json.specs.Written.{comma_if, compact_text, items_text, members_text, number_text}
 use Rattle.tn_said.specs.declared.said.Said.{Said}
-use Rattle.tn_said.specs.declared.said.Said.TheVariants.{Usage, ReadFault, NoMemory, Fault, Equilibrium, Better, Impossible, Accepted, ExchangeFails, Supported, Cycle, Solved, SolvedByCounts, Drill, Ranges, Session, Drops, Completes, Blocks, Valid, Invalid, Cases, Page, Firms}
+use Rattle.tn_said.specs.declared.said.Said.TheVariants.{Usage, ReadFault, NoMemory, Fault, Equilibrium, Better, BetterByCounts, Impossible, Accepted, ExchangeFails, Supported, SupportedByCounts, Cycle, CycleByCounts, Solved, SolvedByCounts, Drill, Ranges, RangesByCounts, Session, Drops, Completes, Blocks, Valid, Invalid, Cases, Page, Firms, FirmsByCounts}
 use Rattle.tn_names.specs.Names.{NameLists}
 use Rattle.tn_answer.specs.AnswerText.{answer_data, answer_form, answer_line, answer_table, form_text, text_of}
 use Rattle.tn_answer.specs.declared.layout.Layout.{Layout}
@@ -166,16 +166,22 @@ form_line names NoMemory other = value_line (answer_data names NoMemory)
 form_line names (Fault fault) other = value_line (answer_data names (Fault fault))
 form_line names (Equilibrium surplus) other = value_line (answer_data names (Equilibrium surplus))
 form_line names (Better firm bundle gain) other = value_line (answer_data names (Better firm bundle gain))
+form_line names (BetterByCounts firm bundle gain) other = value_line (answer_data names (BetterByCounts firm bundle gain))
 form_line names (Impossible firm) other = value_line (answer_data names (Impossible firm))
 form_line names Accepted other = value_line (answer_data names Accepted)
 form_line names (ExchangeFails firm x y at) other = value_line (answer_data names (ExchangeFails firm x y at))
 form_line names (Supported on prices ends) other = value_line (answer_data names (Supported on prices ends))
+form_line names (SupportedByCounts counts prices ends) other =
+    value_line (answer_data names (SupportedByCounts counts prices ends))
 form_line names (Cycle nodes cost) other = value_line (answer_data names (Cycle nodes cost))
+form_line names (CycleByCounts nodes cost) other = value_line (answer_data names (CycleByCounts nodes cost))
 form_line names (Solved on prices surplus ends) other = value_line (answer_data names (Solved on prices surplus ends))
 form_line names (SolvedByCounts counts prices surplus ends) other =
     value_line (answer_data names (SolvedByCounts counts prices surplus ends))
 form_line names (Drill size start firms surplus) other = value_line (answer_data names (Drill size start firms surplus))
 form_line names (Ranges on ranges ends) other = value_line (answer_data names (Ranges on ranges ends))
+form_line names (RangesByCounts counts ranges ends) other =
+    value_line (answer_data names (RangesByCounts counts ranges ends))
 form_line names (Session edits) other = value_line (answer_data names (Session edits))
 form_line names (Drops firm keeps gain over) other = value_line (answer_data names (Drops firm keeps gain over))
 form_line names (Completes prices over) other = value_line (answer_data names (Completes prices over))
@@ -185,6 +191,8 @@ form_line names (Invalid reason) other = value_line (answer_data names (Invalid 
 form_line names (Cases count failed) other = value_line (answer_data names (Cases count failed))
 form_line names (Page page) other = absurd (true≢false other)
 form_line names (Firms content firms surplus) other = value_line (answer_data names (Firms content firms surplus))
+form_line names (FirmsByCounts content firms surplus) other =
+    value_line (answer_data names (FirmsByCounts content firms surplus))
 
 object_has_no_rows : (names : NameLists) (said : Said) → answer_table names said Object ≡ None
 object_has_no_rows names Usage = refl
@@ -193,15 +201,19 @@ object_has_no_rows names NoMemory = refl
 object_has_no_rows names (Fault fault) = refl
 object_has_no_rows names (Equilibrium surplus) = refl
 object_has_no_rows names (Better firm bundle gain) = refl
+object_has_no_rows names (BetterByCounts firm bundle gain) = refl
 object_has_no_rows names (Impossible firm) = refl
 object_has_no_rows names Accepted = refl
 object_has_no_rows names (ExchangeFails firm x y at) = refl
 object_has_no_rows names (Supported on prices ends) = refl
+object_has_no_rows names (SupportedByCounts counts prices ends) = refl
 object_has_no_rows names (Cycle nodes cost) = refl
+object_has_no_rows names (CycleByCounts nodes cost) = refl
 object_has_no_rows names (Solved on prices surplus ends) = refl
 object_has_no_rows names (SolvedByCounts counts prices surplus ends) = refl
 object_has_no_rows names (Drill size start firms surplus) = refl
 object_has_no_rows names (Ranges on ranges ends) = refl
+object_has_no_rows names (RangesByCounts counts ranges ends) = refl
 object_has_no_rows names (Session edits) = refl
 object_has_no_rows names (Drops firm keeps gain over) = refl
 object_has_no_rows names (Completes prices over) = refl
@@ -211,6 +223,7 @@ object_has_no_rows names (Invalid reason) = refl
 object_has_no_rows names (Cases count failed) = refl
 object_has_no_rows names (Page page) = refl
 object_has_no_rows names (Firms content firms surplus) = refl
+object_has_no_rows names (FirmsByCounts content firms surplus) = refl
 
 line_without_rows : (layout : Layout) (names : NameLists) (said : Said) → is_page said ≡ false
     → answer_table names said layout ≡ None → IsOneLine (answer_line layout names said)

@@ -1,19 +1,20 @@
 -- A row is a line: no field of it has a line feed, since names have none.
 use Rattle.std.proofs.Common.{◌≡◌, ◌≢◌, ℕ, zero, suc, ℤ, Bool, true, false, cond, ◌==◌, List, [], ◌∷◌, ◌++◌, length, map, All, Option, Some, None, slice_get, refl, sym, ap, ◌∙◌, subst, arith, inl, inr, true≢false, ne_eqb}
 use Rattle.std.specs.Prelude.{flat_map, not, unwrap_or}
-use Rattle.std.specs.Fmt.{signed_decimal}
+use Rattle.std.specs.Fmt.{decimal, signed_decimal}
 use Rattle.std.specs.List.{list_all}
 use Rattle.std.proofs.lemmas.Bool.{cases_eq}
 use Rattle.std.proofs.lemmas.List.{append_assoc, length-map}
 use Rattle.csv.specs.Writing.{default_writer, escaped, field_text, fields_text, is_blank, needs_quotes, quoted, row_body}
 use Rattle.tn_model.specs.declared.ends.Ends.{Ends}
-use Rattle.tn_model.specs.declared.range.Range.{Range}
 use Rattle.tn_said.specs.declared.holding.Holding.{Holding}
+use Rattle.tn_said.specs.declared.units.TradeUnits.{TradeUnits}
+use Rattle.tn_said.specs.declared.units.UnitHolding.{UnitHolding}
 use Rattle.tn_said.specs.declared.said.Said.{Said}
-use Rattle.tn_said.specs.declared.said.Said.TheVariants.{Usage, ReadFault, NoMemory, Fault, Equilibrium, Better, Impossible, Accepted, ExchangeFails, Supported, Cycle, Solved, SolvedByCounts, Drill, Ranges, Session, Drops, Completes, Blocks, Valid, Invalid, Cases, Page, Firms}
+use Rattle.tn_said.specs.declared.said.Said.TheVariants.{Usage, ReadFault, NoMemory, Fault, Equilibrium, Better, BetterByCounts, Impossible, Accepted, ExchangeFails, Supported, SupportedByCounts, Cycle, CycleByCounts, Solved, SolvedByCounts, Drill, Ranges, RangesByCounts, Session, Drops, Completes, Blocks, Valid, Invalid, Cases, Page, Firms, FirmsByCounts}
 use Rattle.tn_names.specs.Names.{IsNameList, NameLists, is_between, is_name_byte, most_letters}
 use Rattle.tn_answer.specs.AnswerText.{answer_form, answer_line, answer_table, text_of}
-use Rattle.tn_answer.specs.Rows.{bound_text, bundle_text, buyer_text, deal_row, each_from, firm_row, flag_text, is_listed, is_nothing, name_text, on_flags, on_units, price_row, range_row, rows_text, seller_text, units_of}
+use Rattle.tn_answer.specs.Rows.{bound_text, bounds_row, bundle_text, buyer_text, deal_row, each_from, entry_text, firm_row, flag_text, held_row, is_listed, is_nothing, name_text, on_flags, on_units, price_row, range_row, rows_text, seller_text, spaced_text, unit_bundle_text, unit_firm_row, unit_range_row, units_of}
 use Rattle.tn_answer.specs.declared.layout.Layout.{Layout}
 use Rattle.tn_answer.specs.declared.layout.Layout.TheVariants.{Object, Rows, WideRows}
 use Rattle.tn_format_laws.specs.Lines.{AreLines, RowsAreLines}
@@ -121,6 +122,17 @@ bound_unbroken : (bound : Option ℤ) → is_unbroken (bound_text bound) ≡ tru
 bound_unbroken None = refl
 bound_unbroken (Some z) = signed_unbroken z
 
+module _ {A : Type 0} (text : A → List ℕ) (unbroken : (x : A) → is_unbroken (text x) ≡ true) where
+  rest_unbroken : (xs : List A) → is_unbroken (flat_map (λ x. 32 ∷ text x) xs) ≡ true
+  rest_unbroken [] = refl
+  rest_unbroken (x ∷ xs) =
+      append_unbroken (text x) (flat_map (λ y. 32 ∷ text y) xs) (unbroken x) (rest_unbroken xs)
+
+  spaced_unbroken : (xs : List A) → is_unbroken (spaced_text text xs) ≡ true
+  spaced_unbroken [] = refl
+  spaced_unbroken (x ∷ xs) =
+      append_unbroken (text x) (flat_map (λ y. 32 ∷ text y) xs) (unbroken x) (rest_unbroken xs)
+
 module _ (list : List (List ℕ)) (is : IsNameList list) where
   found_unbroken : (k : ℕ) (found : Option (List ℕ)) → slice_get list k ≡ found
       → is_unbroken (unwrap_or found []) ≡ true
@@ -132,17 +144,16 @@ module _ (list : List (List ℕ)) (is : IsNameList list) where
   name_unbroken : (k : ℕ) → is_unbroken (name_text list k) ≡ true
   name_unbroken k = found_unbroken k (slice_get list k) refl
 
-  rest_unbroken : (ks : List ℕ) → is_unbroken (flat_map (λ j. 32 ∷ name_text list j) ks) ≡ true
-  rest_unbroken [] = refl
-  rest_unbroken (k ∷ ks) =
-      append_unbroken (name_text list k) (flat_map (λ j. 32 ∷ name_text list j) ks) (name_unbroken k)
-      (rest_unbroken ks)
-
   bundle_unbroken : (ks : List ℕ) → is_unbroken (bundle_text list ks) ≡ true
-  bundle_unbroken [] = refl
-  bundle_unbroken (k ∷ ks) =
-      append_unbroken (name_text list k) (flat_map (λ j. 32 ∷ name_text list j) ks) (name_unbroken k)
-      (rest_unbroken ks)
+  bundle_unbroken = spaced_unbroken (name_text list) name_unbroken
+
+  entry_unbroken : (entry : TradeUnits) → is_unbroken (entry_text list entry) ≡ true
+  entry_unbroken entry =
+      append_unbroken (name_text list entry.trade) (58 ∷ decimal entry.units) (name_unbroken entry.trade)
+      (decimal_unbroken entry.units)
+
+  unit_bundle_unbroken : (bundle : List TradeUnits) → is_unbroken (unit_bundle_text list bundle) ≡ true
+  unit_bundle_unbroken = spaced_unbroken (entry_text list) entry_unbroken
 
   seller_unbroken : (trade : Option Ends) → is_unbroken (seller_text list trade) ≡ true
   seller_unbroken None = refl
@@ -192,25 +203,36 @@ module _ (names : NameLists) (firms : IsNameList names.firms) (trades : IsNameLi
       ends_unbroken on column ends k (signed_decimal price ∷ [])
       (both_true (is_unbroken (signed_decimal price)) true (signed_unbroken price) refl)
 
-  range_unbroken : (on : List ℕ) (ends : List Ends) (k : ℕ) (range : Range)
-      → are_unbroken (range_row names on ends k range) ≡ true
-  range_unbroken on ends k range =
-      ends_unbroken (on_flags on) (flags_unbroken on) ends k (bound_text range.low ∷ bound_text range.high ∷ [])
-      (both_true (is_unbroken (bound_text range.low)) _ (bound_unbroken range.low)
-      (both_true (is_unbroken (bound_text range.high)) true (bound_unbroken range.high) refl))
+  bounds_unbroken : (on : ℕ → List ℕ) → IsUnbrokenColumn on → (ends : List Ends) (k : ℕ) (low high : Option ℤ)
+      → are_unbroken (bounds_row names on ends k low high) ≡ true
+  bounds_unbroken on column ends k low high =
+      ends_unbroken on column ends k (bound_text low ∷ bound_text high ∷ [])
+      (both_true (is_unbroken (bound_text low)) _ (bound_unbroken low)
+      (both_true (is_unbroken (bound_text high)) true (bound_unbroken high) refl))
+
+  held_unbroken : (k : ℕ) (has best : List ℕ) (worth utility : Option ℤ) (best_utility : ℤ) (gain : Option ℤ)
+      → is_unbroken has ≡ true → is_unbroken best ≡ true
+      → are_unbroken (held_row names.firms k has best worth utility best_utility gain) ≡ true
+  held_unbroken k has best worth utility best_utility gain own other =
+      both_true (is_unbroken (name_text names.firms k)) _ (name_unbroken names.firms firms k)
+      (both_true (is_unbroken (flag_text (is_nothing gain))) _ (flag_unbroken (is_nothing gain))
+      (both_true (is_unbroken (bound_text worth)) _ (bound_unbroken worth)
+      (both_true (is_unbroken (bound_text utility)) _ (bound_unbroken utility)
+      (both_true (is_unbroken (signed_decimal best_utility)) _ (signed_unbroken best_utility)
+      (both_true (is_unbroken (bound_text gain)) _ (bound_unbroken gain)
+      (both_true (is_unbroken has) _ own (both_true (is_unbroken best) true other refl)))))))
 
   holding_unbroken : (k : ℕ) (holding : Holding) → are_unbroken (firm_row names k holding) ≡ true
   holding_unbroken k holding =
-      both_true (is_unbroken (name_text names.firms k)) _ (name_unbroken names.firms firms k)
-      (both_true (is_unbroken (flag_text (is_nothing holding.gain))) _ (flag_unbroken (is_nothing holding.gain))
-      (both_true (is_unbroken (bound_text holding.worth)) _ (bound_unbroken holding.worth)
-      (both_true (is_unbroken (bound_text holding.utility)) _ (bound_unbroken holding.utility)
-      (both_true (is_unbroken (signed_decimal holding.best_utility)) _ (signed_unbroken holding.best_utility)
-      (both_true (is_unbroken (bound_text holding.gain)) _ (bound_unbroken holding.gain)
-      (both_true (is_unbroken (bundle_text names.trades holding.has)) _
-      (bundle_unbroken names.trades trades holding.has)
-      (both_true (is_unbroken (bundle_text names.trades holding.best)) true
-      (bundle_unbroken names.trades trades holding.best) refl)))))))
+      held_unbroken k (bundle_text names.trades holding.has) (bundle_text names.trades holding.best) holding.worth
+      holding.utility holding.best_utility holding.gain (bundle_unbroken names.trades trades holding.has)
+      (bundle_unbroken names.trades trades holding.best)
+
+  unit_holding_unbroken : (k : ℕ) (holding : UnitHolding) → are_unbroken (unit_firm_row names k holding) ≡ true
+  unit_holding_unbroken k holding =
+      held_unbroken k (unit_bundle_text names.trades holding.has) (unit_bundle_text names.trades holding.best)
+      holding.worth holding.utility holding.best_utility holding.gain
+      (unit_bundle_unbroken names.trades trades holding.has) (unit_bundle_unbroken names.trades trades holding.best)
 
   table_unbroken : (said : Said) (layout : Layout) → HasUnbrokenRows (answer_table names said layout)
   table_unbroken Usage layout = tt
@@ -219,6 +241,7 @@ module _ (names : NameLists) (firms : IsNameList names.firms) (trades : IsNameLi
   table_unbroken (Fault fault) layout = tt
   table_unbroken (Equilibrium surplus) layout = tt
   table_unbroken (Better firm bundle gain) layout = tt
+  table_unbroken (BetterByCounts firm bundle gain) layout = tt
   table_unbroken (Impossible firm) layout = tt
   table_unbroken Accepted layout = tt
   table_unbroken (ExchangeFails firm x y at) layout = tt
@@ -226,7 +249,13 @@ module _ (names : NameLists) (firms : IsNameList names.firms) (trades : IsNameLi
   table_unbroken (Supported on prices ends) Rows =
       each_row_unbroken (deal_row names (on_flags on) ends) (deal_unbroken (on_flags on) (flags_unbroken on) ends) 0 prices
   table_unbroken (Supported on prices ends) WideRows = tt
+  table_unbroken (SupportedByCounts counts prices ends) Object = tt
+  table_unbroken (SupportedByCounts counts prices ends) Rows =
+      each_row_unbroken (deal_row names (on_units counts) ends)
+      (deal_unbroken (on_units counts) (units_unbroken counts) ends) 0 prices
+  table_unbroken (SupportedByCounts counts prices ends) WideRows = tt
   table_unbroken (Cycle nodes cost) layout = tt
+  table_unbroken (CycleByCounts nodes cost) layout = tt
   table_unbroken (Solved on prices surplus ends) Object = tt
   table_unbroken (Solved on prices surplus ends) Rows =
       each_row_unbroken (price_row names (on_flags on)) (price_unbroken (on_flags on) (flags_unbroken on)) 0 prices
@@ -242,8 +271,14 @@ module _ (names : NameLists) (firms : IsNameList names.firms) (trades : IsNameLi
   table_unbroken (Drill size start firms surplus) layout = tt
   table_unbroken (Ranges on ranges ends) Object = tt
   table_unbroken (Ranges on ranges ends) Rows =
-      each_row_unbroken (range_row names on ends) (range_unbroken on ends) 0 ranges
+      each_row_unbroken (range_row names (on_flags on) ends) (λ k range. bounds_unbroken (on_flags on)
+      (flags_unbroken on) ends k range.low range.high) 0 ranges
   table_unbroken (Ranges on ranges ends) WideRows = tt
+  table_unbroken (RangesByCounts counts ranges ends) Object = tt
+  table_unbroken (RangesByCounts counts ranges ends) Rows =
+      each_row_unbroken (unit_range_row names (on_units counts) ends) (λ k range. bounds_unbroken (on_units counts)
+      (units_unbroken counts) ends k range.low range.high) 0 ranges
+  table_unbroken (RangesByCounts counts ranges ends) WideRows = tt
   table_unbroken (Session edits) layout = tt
   table_unbroken (Drops firm keeps gain over) layout = tt
   table_unbroken (Completes prices over) layout = tt
@@ -256,6 +291,10 @@ module _ (names : NameLists) (firms : IsNameList names.firms) (trades : IsNameLi
   table_unbroken (Firms content told surplus) Rows =
       each_row_unbroken (firm_row names) holding_unbroken 0 told
   table_unbroken (Firms content told surplus) WideRows = tt
+  table_unbroken (FirmsByCounts content told surplus) Object = tt
+  table_unbroken (FirmsByCounts content told surplus) Rows =
+      each_row_unbroken (unit_firm_row names) unit_holding_unbroken 0 told
+  table_unbroken (FirmsByCounts content told surplus) WideRows = tt
 
 pub rows_are_lines : RowsAreLines
 unfolding answer_line

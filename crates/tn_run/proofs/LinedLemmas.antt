@@ -8,7 +8,7 @@ use Rattle.std.proofs.lemmas.List.Concat.{flat_map-append}
 use Rattle.std.proofs.lemmas.List.Elements.{All-push}
 use Rattle.std.proofs.lemmas.List.Folds.{list_any-append}
 use Rattle.tn_said.specs.declared.said.Said.{Said}
-use Rattle.tn_said.specs.declared.said.Said.TheVariants.{Usage, ReadFault, NoMemory, Fault, Equilibrium, Better, Impossible, Accepted, ExchangeFails, Supported, Cycle, Solved, SolvedByCounts, Drill, Ranges, Session, Drops, Completes, Blocks, Valid, Invalid, Cases, Page as PageIs, Firms}
+use Rattle.tn_said.specs.declared.said.Said.TheVariants.{Usage, ReadFault, NoMemory, Fault, Equilibrium, Better, BetterByCounts, Impossible, Accepted, ExchangeFails, Supported, SupportedByCounts, Cycle, CycleByCounts, Solved, SolvedByCounts, Drill, Ranges, RangesByCounts, Session, Drops, Completes, Blocks, Valid, Invalid, Cases, Page as PageIs, Firms, FirmsByCounts}
 use Rattle.tn_names.specs.Names.{NameLists, no_names}
 use Rattle.tn_answer.specs.AnswerText.{answer_line}
 use Rattle.tn_answer.specs.Kept.{IsWithinClaims}
@@ -217,6 +217,10 @@ Rose_later first middle last later rose = elim rose [
 abbrev status_if : Bool → ℕ
 status_if holds = status_number (if holds then Yes else No)
 
+never_failed_if : (holds : Bool) → status_if holds ≡ 4 → ⊥
+never_failed_if true e = absurd (omega (arith, e))
+never_failed_if false e = absurd (omega (arith, e))
+
 -- no answer has the status of a failed write
 never_failed : (said : Said) → status_number (status_of said) ≡ 4 → ⊥
 never_failed Usage is = absurd (omega (arith, is))
@@ -225,15 +229,19 @@ never_failed NoMemory is = absurd (omega (arith, is))
 never_failed (Fault fault) is = absurd (omega (arith, is))
 never_failed (Equilibrium surplus) is = absurd (omega (arith, is))
 never_failed (Better firm bundle gain) is = absurd (omega (arith, is))
+never_failed (BetterByCounts firm bundle gain) is = absurd (omega (arith, is))
 never_failed (Impossible firm) is = absurd (omega (arith, is))
 never_failed Accepted is = absurd (omega (arith, is))
 never_failed (ExchangeFails firm x y at) is = absurd (omega (arith, is))
 never_failed (Supported on prices ends) is = absurd (omega (arith, is))
+never_failed (SupportedByCounts counts prices ends) is = absurd (omega (arith, is))
 never_failed (Cycle nodes cost) is = absurd (omega (arith, is))
+never_failed (CycleByCounts nodes cost) is = absurd (omega (arith, is))
 never_failed (Solved on prices surplus ends) is = absurd (omega (arith, is))
 never_failed (SolvedByCounts counts prices surplus ends) is = absurd (omega (arith, is))
 never_failed (Drill size start firms surplus) is = absurd (omega (arith, is))
 never_failed (Ranges on ranges ends) is = absurd (omega (arith, is))
+never_failed (RangesByCounts counts ranges ends) is = absurd (omega (arith, is))
 never_failed (Session edits) is = absurd (omega (arith, is))
 never_failed (Drops firm keeps gain over) is = absurd (omega (arith, is))
 never_failed (Completes prices over) is = absurd (omega (arith, is))
@@ -243,11 +251,8 @@ never_failed (Invalid reason) is = absurd (omega (arith, is))
 never_failed (Cases count []) is = absurd (omega (arith, is))
 never_failed (Cases count (number ∷ numbers)) is = absurd (omega (arith, is))
 never_failed (PageIs page) is = absurd (omega (arith, is))
-never_failed (Firms content firms surplus) is = by_case (content == length firms) is
-  where
-    by_case : (b : Bool) → status_if b ≡ 4 → ⊥
-    by_case true e = absurd (omega (arith, e))
-    by_case false e = absurd (omega (arith, e))
+never_failed (Firms content firms surplus) is = never_failed_if (content == length firms) is
+never_failed (FirmsByCounts content firms surplus) is = never_failed_if (content == length firms) is
 
 -- how a run's source and sink counted their faults: at first, before the last answer and after it
 pub record Faults : Type 0 where

@@ -1,7 +1,7 @@
 -- What a whole run comes to.
 use Rattle.std.specs.Prelude.{◌≡◌, ℕ, ◌==◌, ◌⊎◌, List, [], ◌∷◌, length, if◌then◌else◌, Option}
 use Rattle.tn_said.specs.declared.said.Said.{Said}
-use Rattle.tn_said.specs.declared.said.Said.TheVariants.{Usage, ReadFault, NoMemory, Fault, Equilibrium, Better, Impossible, Accepted, ExchangeFails, Supported, Cycle, Solved, SolvedByCounts, Drill, Ranges, Session, Drops, Completes, Blocks, Valid, Invalid, Cases, Page as PageIs, Firms}
+use Rattle.tn_said.specs.declared.said.Said.TheVariants.{Usage, ReadFault, NoMemory, Fault, Equilibrium, Better, BetterByCounts, Impossible, Accepted, ExchangeFails, Supported, SupportedByCounts, Cycle, CycleByCounts, Solved, SolvedByCounts, Drill, Ranges, RangesByCounts, Session, Drops, Completes, Blocks, Valid, Invalid, Cases, Page as PageIs, Firms, FirmsByCounts}
 use Rattle.tn_io.specs.Counts.{Rose}
 use Rattle.tn_io.specs.Sink.{Grows, GrowsByPrefix}
 use Rattle.tn_names.specs.Names.{NameLists}
@@ -19,15 +19,19 @@ status_of Usage = UsageStatus
 status_of ReadFault = ReadFailed
 status_of NoMemory = NoMemoryStatus
 status_of (Better firm bundle gain) = No
+status_of (BetterByCounts firm bundle gain) = No
 status_of (Impossible firm) = No
 status_of Accepted = Yes
 status_of (ExchangeFails firm x y at) = No
 status_of (Supported on prices ends) = Yes
+status_of (SupportedByCounts counts prices ends) = Yes
 status_of (Cycle nodes cost) = No
+status_of (CycleByCounts nodes cost) = No
 status_of (Solved on prices surplus ends) = Yes
 status_of (SolvedByCounts counts prices surplus ends) = Yes
 status_of (Drill size start firms surplus) = Yes
 status_of (Ranges on ranges ends) = Yes
+status_of (RangesByCounts counts ranges ends) = Yes
 status_of (Session edits) = Yes
 status_of (Drops firm keeps gain over) = No
 status_of (Completes prices over) = Yes
@@ -38,6 +42,7 @@ status_of (Cases count []) = Yes
 status_of (Cases count (number ∷ numbers)) = No
 status_of (PageIs page) = Yes
 status_of (Firms content firms surplus) = if content == length firms then Yes else No
+status_of (FirmsByCounts content firms surplus) = if content == length firms then Yes else No
 
 -- the text of the answer in a layout was written whole
 pub record IsWrittenWhole (old new : Option (List ℕ)) (layout : Layout) (names : NameLists) (said : Said)

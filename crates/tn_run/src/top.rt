@@ -1,6 +1,6 @@
 //! The top call: words, reading, the answer, writing.
 
-ghost use Rattle.std.specs.Prelude.{◌≡◌, ◌≢◌, ◌≤◌, ◌⊎◌, true, List, ℕ, Some, map, string_bytes};
+ghost use Rattle.std.specs.Prelude.{◌≡◌, ◌≢◌, ◌≤◌, ◌⊎◌, true, List, ℕ, Some, if◌then◌else◌, map, string_bytes};
 ghost use Rattle.tn_answer.specs.AnswerText.{answer_line};
 ghost use Rattle.tn_answer.specs.Kept.{IsWithinClaims};
 ghost use Rattle.tn_answer.specs.declared.layout.Layout.{Layout};
@@ -50,6 +50,13 @@ impl Run {
     }
 }
 
+/// The exit status of an answer that is a yes where something holds.
+fn yes_if(holds: bool) -> Status
+    ensures { result ≡ (if holds then Status.Yes else Status.No) }
+{
+    if holds { Status::Yes } else { Status::No }
+}
+
 /// The exit status of an answer that was written whole.
 pub fn status_of(said: &Said) -> Status
     ensures { result ≡ status_of said.now }
@@ -58,10 +65,12 @@ pub fn status_of(said: &Said) -> Status
         Said::Equilibrium { .. }
         | Said::Accepted
         | Said::Supported { .. }
+        | Said::SupportedByCounts { .. }
         | Said::Solved { .. }
         | Said::SolvedByCounts { .. }
         | Said::Drill { .. }
         | Said::Ranges { .. }
+        | Said::RangesByCounts { .. }
         | Said::Session { .. }
         | Said::Completes { .. }
         | Said::Valid
@@ -71,9 +80,11 @@ pub fn status_of(said: &Said) -> Status
         Said::ReadFault => Status::ReadFailed,
         Said::NoMemory => Status::NoMemory,
         Said::Better { .. }
+        | Said::BetterByCounts { .. }
         | Said::Impossible { .. }
         | Said::ExchangeFails { .. }
         | Said::Cycle { .. }
+        | Said::CycleByCounts { .. }
         | Said::Drops { .. }
         | Said::Blocks { .. }
         | Said::Invalid(_) => Status::No,
@@ -84,13 +95,8 @@ pub fn status_of(said: &Said) -> Status
                 Status::No
             }
         }
-        Said::Firms { content, firms, .. } => {
-            if *content as usize == firms.len() {
-                Status::Yes
-            } else {
-                Status::No
-            }
-        }
+        Said::Firms { content, firms, .. } => yes_if(*content as usize == firms.len()),
+        Said::FirmsByCounts { content, firms, .. } => yes_if(*content as usize == firms.len()),
     }
 }
 
