@@ -137,11 +137,11 @@ pin_label market pins links levels label kept k pin at =
     ≤ℤ (shape_gain (pin_shape market pin) k +ℤ pull label (pin_shape market pin) k)) (sym here) (most other within)) in
     omega (arith, ints, rate)
 
--- the flow over a set's link is the net count of its firm's counts within it
-own_counts : (f seller buyer sold bought : ℕ) → seller ≢ buyer
+-- a firm's own counts are what it sells or what it buys
+pub moved_own : (f seller buyer sold bought : ℕ) → seller ≢ buyer
     → moved f (record { seller = seller; buyer = buyer; units = 0 }) (pos sold) (pos bought)
     ≡ bought_by f (record { seller = seller; buyer = buyer; units = 0 }) (pos (if f == seller then sold else bought))
-own_counts f seller buyer sold bought apart = elim (cases_eq f seller) [
+moved_own f seller buyer sold bought apart = elim (cases_eq f seller) [
   | inl same ↦
       let sells = eq-eqb f seller same in
       let no_buyer = ne_eqb f buyer (λ e. apart (sym same ∙ e)) in
@@ -157,6 +157,7 @@ own_counts f seller buyer sold bought apart = elim (cases_eq f seller) [
       left ∙ sym right
 ]
 
+-- the flow over a set's link is the net count of its firm's counts within it
 pub set_flow : (market : UnitMarket) (pins : List Pin) (links : List Link) (levels : List ℕ)
     → IsFlowOf market pins links levels → (i : ℕ) (set : CountSet) → slice_get market.sets.items i ≡ Some set
     → pos (get_or levels i 0) -ℤ pos set.back ≡ net_count market.trades.items set (counts_at market levels set.firm)
@@ -166,7 +167,7 @@ set_flow market pins links levels flow i set at =
     let same = total-same
     (λ t. when (holds set t) (moved set.firm (trade_at trades t) (pos (sold_at market levels t)) (pos (bought_at market levels t))))
     (λ t. when (holds set t) (bought_by set.firm (trade_at trades t) (pos (counts_at market levels set.firm t))))
-    (length trades) (λ t below. ap (when (holds set t)) (own_counts set.firm (trade_at trades t).seller
+    (length trades) (λ t below. ap (when (holds set t)) (moved_own set.firm (trade_at trades t).seller
     (trade_at trades t).buyer (sold_at market levels t) (bought_at market levels t)
     (between_at market flow.market_is t below).apart)) in
     omega (arith, ints, here, same)

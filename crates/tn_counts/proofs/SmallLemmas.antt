@@ -22,7 +22,7 @@ use Rattle.tn_counts.proofs.NetLemmas.{end_term, ends_pull, minus_one, trade_flo
 use Rattle.tn_counts.proofs.PlaceLemmas.{item_at, pin_in, pin_term, pull, root_term}
 
 -- the units of all trades
-units_total : (trades : List UnitTrade)
+pub units_total : (trades : List UnitTrade)
     → total (λ t. pos (trade_at trades t).units) (length trades) ≡ pos (sum_by (λ trade. trade.units) trades)
 unfolding total
 units_total [] = refl

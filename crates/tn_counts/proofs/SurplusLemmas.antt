@@ -33,7 +33,7 @@ use Rattle.tn_counts.proofs.UtilityLemmas.{plus-times, when}
 use Rattle.tn_counts.proofs.WelfareLemmas.{equilibria_efficient}
 use Rattle.tn_counts.proofs.WorthLemmas.{AreThere, even_gain, even_rise, set_sum_from, sets_value, value_in}
 
-no_pins : (trades : ℕ) → ArePins trades []
+pub no_pins : (trades : ℕ) → ArePins trades []
 no_pins trades = record {
   few = omega arith;
   known = λ k pin at. absurd (none-some pin at);

@@ -1,5 +1,7 @@
 -- The files of lemmas of this crate.
 pub mod ListLemmas
+pub mod NetLemmas
+pub mod FirmLemmas
 pub mod AroundLemmas
 pub mod BuildLemmas
 pub mod ConstantLemmas
