@@ -24,6 +24,38 @@ end_term market levels label t =
     -ℤ (label (root_node market (trade_at market.trades.items t).seller) -ℤ label (trade_node market t))
     *ℤ pos (sold_at market levels t)
 
+-- one end: to the root by way of the inner node
+way : (root inner node count : ℤ) → (root -ℤ node) *ℤ count
+    ≡ count *ℤ (root -ℤ inner) +ℤ (inner -ℤ node) *ℤ (count -ℤ pos 0)
+way root inner node count =
+    let flows : count -ℤ pos 0 ≡ count = omega (arith, ints) in
+    let own = ap (λ (z : ℤ). (inner -ℤ node) *ℤ z) flows in
+    let turned = *ℤ_comm count (root -ℤ inner) in
+    let first = minus-times root inner count in
+    let second = minus-times inner node count in
+    let whole = minus-times root node count in
+    omega (arith, ints, own, turned, first, second, whole)
+
+pub end_parts : (market : UnitMarket) (levels : List ℕ) (label : ℕ → ℤ) (t : ℕ)
+    → end_term market levels label t
+    ≡ climbed market label (λ t. pos (sold_at market levels t)) (λ t. pos (bought_at market levels t)) t
+    +ℤ (seller_term (pull label) market levels t +ℤ buyer_term (pull label) market levels t)
+end_parts market levels label t =
+    let buyer = (trade_at market.trades.items t).buyer in
+    let seller = (trade_at market.trades.items t).seller in
+    let node = label (trade_node market t) in
+    let bought = pos (bought_at market levels t) in
+    let sold = pos (sold_at market levels t) in
+    let first = way (label (root_node market buyer)) (label (inner_node market buyer t)) node bought in
+    let second = way (label (root_node market seller)) (label (inner_node market seller t)) node sold in
+    let flows : sold -ℤ pos 0 ≡ sold = omega (arith, ints) in
+    let back : (node -ℤ label (inner_node market seller t)) *ℤ (sold -ℤ pos 0)
+    ≡ pos 0 -ℤ (label (inner_node market seller t) -ℤ node) *ℤ (sold -ℤ pos 0) =
+    let one = minus-times node (label (inner_node market seller t)) (sold -ℤ pos 0) in
+    let two = minus-times (label (inner_node market seller t)) node (sold -ℤ pos 0) in
+    omega (arith, ints, one, two) in
+    omega (arith, ints, first, second, back)
+
 pub ends_pull : (market : UnitMarket) (pins : List Pin) (links : List Link) (levels : List ℕ) (label : ℕ → ℤ)
     → IsFlowOf market pins links levels
     → total (end_term market levels label) (length market.trades.items)
@@ -36,7 +68,7 @@ ends_pull market pins links levels label flow =
     let net = sets_climb market label sold bought flow.market_is.laminar in
     let same = total-same (end_term market levels label)
     (λ t. climbed market label sold bought t
-    +ℤ (seller_term (pull label) market levels t +ℤ buyer_term (pull label) market levels t)) n (λ t below. end_at t) in
+    +ℤ (seller_term (pull label) market levels t +ℤ buyer_term (pull label) market levels t)) n (λ t below. end_parts market levels label t) in
     let first = total-plus (climbed market label sold bought)
     (λ t. seller_term (pull label) market levels t +ℤ buyer_term (pull label) market levels t) n in
     let second = total-plus (seller_term (pull label) market levels) (buyer_term (pull label) market levels) n in
@@ -61,34 +93,6 @@ ends_pull market pins links levels label flow =
         let same : flow_in levels i (slice_get market.sets.items i)
         ≡ moved_in market.trades.items sold bought (slice_get market.sets.items i) = omega (arith, ints, none) in
         set_pull market levels label i ∙ ap (λ (z : ℤ). climb market label i *ℤ z) same
-
-    -- one end: to the root by way of the inner node
-    way : (root inner node count : ℤ) → (root -ℤ node) *ℤ count
-        ≡ count *ℤ (root -ℤ inner) +ℤ (inner -ℤ node) *ℤ (count -ℤ pos 0)
-    way root inner node count =
-        let flows : count -ℤ pos 0 ≡ count = omega (arith, ints) in
-        let own = ap (λ (z : ℤ). (inner -ℤ node) *ℤ z) flows in
-        let turned = *ℤ_comm count (root -ℤ inner) in
-        let first = minus-times root inner count in
-        let second = minus-times inner node count in
-        let whole = minus-times root node count in
-        omega (arith, ints, own, turned, first, second, whole)
-
-    end_at : (t : ℕ) → end_term market levels label t ≡ climbed market label sold bought t
-        +ℤ (seller_term (pull label) market levels t +ℤ buyer_term (pull label) market levels t)
-    end_at t =
-        let buyer = (trade_at market.trades.items t).buyer in
-        let seller = (trade_at market.trades.items t).seller in
-        let node = label (trade_node market t) in
-        let first = way (label (root_node market buyer)) (label (inner_node market buyer t)) node (bought t) in
-        let second = way (label (root_node market seller)) (label (inner_node market seller t)) node (sold t) in
-        let flows : sold t -ℤ pos 0 ≡ sold t = omega (arith, ints) in
-        let back : (node -ℤ label (inner_node market seller t)) *ℤ (sold t -ℤ pos 0)
-        ≡ pos 0 -ℤ (label (inner_node market seller t) -ℤ node) *ℤ (sold t -ℤ pos 0) =
-        let one = minus-times node (label (inner_node market seller t)) (sold t -ℤ pos 0) in
-        let two = minus-times (label (inner_node market seller t)) node (sold t -ℤ pos 0) in
-        omega (arith, ints, one, two) in
-        omega (arith, ints, first, second, back)
 
 -- each trade is between two firms
 pub between_at : (market : UnitMarket) → IsUnitMarket market → (t : ℕ) → t < length market.trades.items

@@ -15,6 +15,6 @@ mod shown;
 
 pub use checks::{are_plain, has_steps};
 pub use laws::{cycles_gain_what_they_cost, labels_are_greatest};
-pub use link::{Link, Step, room};
+pub use link::{Link, Step, rise, room};
 pub use links::Links;
 pub use settling::settle;

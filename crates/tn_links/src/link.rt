@@ -45,7 +45,7 @@ fn added(each: i64, units: u32) -> i128
 }
 
 /// What the first units of the steps add.
-pub(crate) fn rise(steps: &[Step], units: u32) -> i128
+pub fn rise(steps: &[Step], units: u32) -> i128
     requires { AreSlight steps.now }
     ensures rise { result ≡ rise steps.now units }
     ensures small { IsAtMost result most_rise }

@@ -1,5 +1,5 @@
 -- What firms have by counts of what each sells and buys, trade by trade and set by set.
-use Rattle.std.proofs.Common.{◌≡◌, ◌≢◌, ℕ, zero, suc, ◌+◌, ◌*◌, ◌<◌, ◌≤◌, Bool, true, false, ◌==◌, if◌then◌else◌, List, [], ◌∷◌, length, drop, get_or, Option, Some, None, option_map, slice_get, refl, sym, ap, ap₂, ◌∙◌, subst, arith, inl, inr, ℤ, pos, ◌+ℤ◌, ◌-ℤ◌, ◌≤ℤ◌, ◌*ℤ◌}
+use Rattle.std.proofs.Common.{◌≡◌, ◌≢◌, ℕ, zero, suc, ◌+◌, ◌*◌, ◌<◌, ◌≤◌, ◌⊎◌, Bool, true, false, ◌==◌, if◌then◌else◌, List, [], ◌∷◌, length, drop, get_or, Option, Some, None, option_map, slice_get, refl, sym, ap, ap₂, ◌∙◌, subst, arith, inl, inr, ℤ, pos, ◌+ℤ◌, ◌-ℤ◌, ◌≤ℤ◌, ◌*ℤ◌}
 use Rattle.std.proofs.lemmas.Int.{ints}
 use Rattle.std.proofs.lemmas.Bool.{cases_eq, eq-eqb, eqb-true, ne_eqb}
 use Rattle.std.proofs.lemmas.Option.{none-some, same_Some}
@@ -7,8 +7,9 @@ use Rattle.std.proofs.Math.IntN.{zero-*ℤ}
 use Rattle.tn_base.specs.Options.{both}
 use Rattle.tn_links.specs.Totals.{total}
 use Rattle.tn_links.proofs.TotalLemmas.{total-same}
-use Rattle.tn_counts.specs.Counts.{paid_to, payments, trade_at}
-use Rattle.tn_counts.specs.Laminar.{amount_sum, amount_to, amounts_at, bought_by, holds, net_count, set_number, set_sum}
+use Rattle.tn_counts.specs.Outcomes.{HasEnd}
+use Rattle.tn_counts.specs.Counts.{count_utility, paid_to, payments, trade_at}
+use Rattle.tn_counts.specs.Laminar.{added_at, amount_sum, amount_to, amounts_at, bought_by, firm_of, holds, net_count, set_number, set_sum}
 use Rattle.tn_counts.specs.Markets.{IsUnitMarket}
 use Rattle.tn_counts.specs.declared.market.UnitMarket.{UnitMarket}
 use Rattle.tn_counts.specs.declared.set.CountSet.{CountSet}
@@ -121,3 +122,82 @@ sets_here trades f counts (first ∷ sets) (suc k) set at =
     sets_here trades f counts sets k set at
     ∙ ap (λ (n : ℕ). if f == set.firm then both (set_number trades set counts) (set_sum trades f counts (drop n (first ∷ sets)))
     else set_sum trades f counts (drop n (first ∷ sets))) next
+
+-- ---- counts that are the same of a firm's own trades
+
+abbrev pub AreSameFor : List UnitTrade → ℕ → (ℕ → ℕ) → (ℕ → ℕ) → Type 0
+AreSameFor trades f counts others = (t : ℕ) → t < length trades → HasEnd f (trade_at trades t) → counts t ≡ others t
+
+-- what hangs on units where the firm has an end alone
+one_same : (f seller buyer n m : ℕ) (h : Bool → Bool → ℕ → ℤ) → ((i j : ℕ) → h false false i ≡ h false false j)
+    → ((seller ≡ f) ⊎ (buyer ≡ f) → n ≡ m) → h (f == seller) (f == buyer) n ≡ h (f == seller) (f == buyer) m
+one_same f seller buyer n m h none same = elim (cases_eq f seller) [
+  | inl sells ↦ ap (h (f == seller) (f == buyer)) (same (inl (sym sells)))
+  | inr no_seller ↦ elim (cases_eq f buyer) [
+    | inl buys ↦ ap (h (f == seller) (f == buyer)) (same (inr (sym buys)))
+    | inr no_buyer ↦
+        let tests = ap₂ (λ (x : Bool) (y : Bool). h x y n) (ne_eqb f seller no_seller) (ne_eqb f buyer no_buyer) in
+        let back = ap₂ (λ (x : Bool) (y : Bool). h x y m) (ne_eqb f seller no_seller) (ne_eqb f buyer no_buyer) in
+        tests ∙ none n m ∙ sym back
+  ]
+]
+
+number_own : (trades : List UnitTrade) (set : CountSet) (counts others : ℕ → ℕ) → AreSameFor trades set.firm counts others
+    → set_number trades set counts ≡ set_number trades set others
+number_own trades set counts others same =
+    ap (λ (z : ℤ). added_at set (z +ℤ pos set.back))
+    (total-same (λ t. when (holds set t) (bought_by set.firm (trade_at trades t) (pos (counts t))))
+    (λ t. when (holds set t) (bought_by set.firm (trade_at trades t) (pos (others t)))) (length trades)
+    (λ t below. ap (when (holds set t)) (one_same set.firm (trade_at trades t).seller (trade_at trades t).buyer (counts t)
+    (others t) (λ s b n. when b (pos n) -ℤ when s (pos n)) (λ i j. refl) (same t below))))
+
+sets_own : (trades : List UnitTrade) (f : ℕ) (counts others : ℕ → ℕ) (sets : List CountSet)
+    → AreSameFor trades f counts others → set_sum trades f counts sets ≡ set_sum trades f others sets
+sets_own trades f counts others [] same = refl
+sets_own trades f counts others (set ∷ sets) same = elim (cases_eq f set.firm) [
+  | inl own ↦
+      ap₂ (λ (o : Option ℤ) (p : Option ℤ). if f == set.firm then both o p else p)
+      (number_own trades set counts others (subst (λ (g : ℕ). AreSameFor trades g counts others) own same))
+      (sets_own trades f counts others sets same)
+  | inr other ↦
+      let test = ne_eqb f set.firm other in
+      ap (λ (b : Bool). if b then both (set_number trades set counts) (set_sum trades f counts sets)
+      else set_sum trades f counts sets) test
+      ∙ sets_own trades f counts others sets same
+      ∙ sym (ap (λ (b : Bool). if b then both (set_number trades set others) (set_sum trades f others sets)
+      else set_sum trades f others sets) test)
+]
+
+pub worth_own : (market : UnitMarket) (f : ℕ) (counts others : ℕ → ℕ) → AreSameFor market.trades.items f counts others
+    → (firm_of market f).worth counts ≡ (firm_of market f).worth others
+worth_own market f counts others same =
+    ap₂ (λ (z : ℤ) (o : Option ℤ). both (Some z) o)
+    (total-same (λ t. amount_to f (trade_at trades t) (amounts_at amounts t) *ℤ pos (counts t))
+    (λ t. amount_to f (trade_at trades t) (amounts_at amounts t) *ℤ pos (others t)) (length trades)
+    (λ t below. one_same f (trade_at trades t).seller (trade_at trades t).buyer (counts t) (others t)
+    (λ s b n. (when s (amounts_at amounts t).seller +ℤ when b (amounts_at amounts t).buyer) *ℤ pos n)
+    (λ i j. zero-*ℤ (pos i) ∙ sym (zero-*ℤ (pos j))) (same t below)))
+    (sets_own trades f counts others market.sets.items same)
+  where
+    trades : List UnitTrade
+    trades = market.trades.items
+
+    amounts : List UnitAmounts
+    amounts = market.amounts.items
+
+pub payments_own : (trades : List UnitTrade) (prices : ℕ → ℤ) (f : ℕ) (counts others : ℕ → ℕ)
+    → AreSameFor trades f counts others → payments trades prices f counts ≡ payments trades prices f others
+payments_own trades prices f counts others same =
+    total-same (λ t. paid_to f (prices t) (trade_at trades t) *ℤ pos (counts t))
+    (λ t. paid_to f (prices t) (trade_at trades t) *ℤ pos (others t)) (length trades)
+    (λ t below. one_same f (trade_at trades t).seller (trade_at trades t).buyer (counts t) (others t)
+    (λ s b n. (when s (prices t) -ℤ when b (prices t)) *ℤ pos n)
+    (λ i j. zero-*ℤ (pos i) ∙ sym (zero-*ℤ (pos j))) (same t below))
+
+pub utility_own : (market : UnitMarket) (scale : ℤ) (prices : ℕ → ℤ) (f : ℕ) (counts others : ℕ → ℕ)
+    → AreSameFor market.trades.items f counts others
+    → count_utility market.trades.items scale prices f (firm_of market f) counts
+    ≡ count_utility market.trades.items scale prices f (firm_of market f) others
+utility_own market scale prices f counts others same =
+    ap₂ (λ (o : Option ℤ) (z : ℤ). option_map (λ worth. scale *ℤ worth +ℤ z) o) (worth_own market f counts others same)
+    (payments_own market.trades.items prices f counts others same)

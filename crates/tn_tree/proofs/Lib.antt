@@ -2,6 +2,7 @@
 pub mod ListLemmas
 pub mod NetLemmas
 pub mod FirmLemmas
+pub mod KeptLemmas
 pub mod AroundLemmas
 pub mod BuildLemmas
 pub mod ConstantLemmas

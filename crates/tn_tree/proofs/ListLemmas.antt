@@ -26,6 +26,13 @@ shapes_more links after link before more after_more shape made is one next =
     ap (map shape_of) made ∙ map-append shape_of links (link ∷ [])
     ∙ ap₂ (λ xs y. xs ++ y ∷ []) is one ∙ append_assoc before more (shape ∷ []) ∙ ap (λ xs. before ++ xs) (sym next)
 
+-- one item more after others, the first of which has number 0
+pub append_more : {A : Type 0} (f : ℕ → A) (start old new : List A) (x : A) (k : ℕ) → new ≡ old ++ x ∷ []
+    → old ≡ start ++ map f (range_with_len 0 k) → x ≡ f k → new ≡ start ++ map f (range_with_len 0 (k + 1))
+append_more f start old new x k made is own =
+    made ∙ ap₂ (λ xs y. xs ++ y ∷ []) is own ∙ append_assoc start (map f (range_with_len 0 k)) (f k ∷ [])
+    ∙ ap (λ xs. start ++ xs) (sym (map-range_with_len_more f 0 k k (omega arith)))
+
 -- the shapes of one set more
 pub set_shapes_more : (market : UnitMarket) (sets : List CountSet) (i k : ℕ) (set : CountSet)
     → slice_get sets k ≡ Some set

@@ -235,7 +235,7 @@ units_small market f is each =
     record { low = omega (arith, ints, small.0, sum, few); high = omega (arith, ints, small.1, sum, few) }
 
 -- at most one side of a difference by tests
-one_side : (s b : Bool) (sold bought units : ℕ) → sold ≤ units → bought ≤ units
+pub one_side : (s b : Bool) (sold bought units : ℕ) → sold ≤ units → bought ≤ units
     → ((pos 0 -ℤ pos units) ≤ℤ ((if b then pos bought else pos 0) -ℤ (if s then pos sold else pos 0)))
     × (((if b then pos bought else pos 0) -ℤ (if s then pos sold else pos 0)) ≤ℤ pos units)
 one_side true true sold bought units few fewer = (omega (arith, ints, few, fewer), omega (arith, ints, few, fewer))

@@ -1,4 +1,5 @@
 -- The files of definitions of this crate.
 pub mod Lists
 pub mod Nets
+pub mod Levels
 pub mod Shapes

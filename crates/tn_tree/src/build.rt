@@ -16,7 +16,7 @@ use tn_counts::{Pin, UnitMarket};
 use tn_links::{Link, Links, Step};
 
 /// More units than flow over any link.
-const UNBOUNDED: u32 = 4_194_304;
+pub(crate) const UNBOUNDED: u32 = 4_194_304;
 
 /// One step of so many units.
 fn even(alloc: Global, units: u32, each: i64) -> Result<Vec<Step>, OutOfMemory>

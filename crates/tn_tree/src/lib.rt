@@ -4,6 +4,7 @@
 mod around;
 mod best;
 mod build;
+mod flow;
 mod nets;
 mod settled;
 mod solve;

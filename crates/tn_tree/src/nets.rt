@@ -88,7 +88,9 @@ fn buyer_end(market: &UnitMarket, links: &Links, t: u32) -> u32
     ensures node { result ≡ inner_node market.now (trade_at market.now.trades.items t).buyer t }
     ensures inside { result < links.now.nodes }
 {
-    links.ends(trade_node(market, t) + market.trades.len() as u32).1
+    links
+        .ends(trade_node(market, t) + market.trades.len() as u32)
+        .1
 }
 
 /// The node above a set, by its link.
