@@ -1,16 +1,26 @@
 -- What firms have by counts of what each sells and buys, trade by trade and set by set.
-use Rattle.std.proofs.Common.{◌≡◌, ◌≢◌, ℕ, zero, suc, ◌+◌, ◌*◌, ◌<◌, ◌≤◌, ◌⊎◌, Bool, true, false, ◌==◌, if◌then◌else◌, List, [], ◌∷◌, length, drop, get_or, Option, Some, None, option_map, slice_get, refl, sym, ap, ap₂, ◌∙◌, subst, arith, inl, inr, ℤ, pos, ◌+ℤ◌, ◌-ℤ◌, ◌≤ℤ◌, ◌*ℤ◌}
+use Rattle.std.proofs.Common.{◌≡◌, ◌≢◌, ℕ, zero, suc, ◌+◌, ◌-◌, ◌*◌, ◌^◌, ◌<◌, ◌≤◌, ◌⊎◌, Bool, true, false, ◌==◌, if◌then◌else◌, List, [], ◌∷◌, length, map, drop, get_or, Option, Some, None, option_map, slice_get, refl, sym, ap, ap₂, ◌∙◌, subst, arith, inl, inr, ℤ, pos, ◌+ℤ◌, ◌-ℤ◌, ◌≤ℤ◌, ◌*ℤ◌}
+use Rattle.std.specs.Prelude.{set, ◌<ℤ◌}
 use Rattle.std.proofs.lemmas.Int.{ints}
-use Rattle.std.proofs.lemmas.Bool.{cases_eq, eq-eqb, eqb-true, ne_eqb}
-use Rattle.std.proofs.lemmas.Option.{none-some, same_Some}
-use Rattle.std.proofs.Math.IntN.{zero-*ℤ}
+use Rattle.std.proofs.lemmas.Bool.{cases_eq, cases_lt, eq-eqb, eqb-true, ne_eqb, true≢false}
+use Rattle.std.proofs.lemmas.List.{get_or-set_other, get_or-set_same, length-set}
+use Rattle.std.proofs.lemmas.Option.{none-some, same_Some, slice_get-get_or}
+use native.Mathlib.Nat.{mul-le-mul_right}
+use Rattle.std.proofs.Math.IntN.{negsuc, zero-*ℤ}
 use Rattle.tn_base.specs.Options.{both}
+use Rattle.tn_base.specs.Arcs.{IsAtMost}
+use Rattle.tn_base.proofs.WalkLemmas.{both_parts}
+use Rattle.tn_links.specs.declared.link.Step.{Step}
+use Rattle.tn_links.specs.Links.{AreSlight, rise, room}
+use Rattle.tn_links.specs.RiseLemmas.{rise_at_most, times_small}
+use Rattle.tn_links.specs.Widths.{most_each}
 use Rattle.tn_links.specs.Totals.{total}
 use Rattle.tn_links.proofs.TotalLemmas.{total-same}
 use Rattle.tn_counts.specs.Outcomes.{HasEnd}
-use Rattle.tn_counts.specs.Counts.{count_utility, paid_to, payments, trade_at}
+use Rattle.tn_counts.specs.Counts.{AreCounts, count_utility, paid_to, payments, trade_at}
 use Rattle.tn_counts.specs.Laminar.{added_at, amount_sum, amount_to, amounts_at, bought_by, firm_of, holds, net_count, set_number, set_sum}
-use Rattle.tn_counts.specs.Markets.{IsUnitMarket}
+use Rattle.tn_counts.specs.Markets.{HaveSmallAmounts, HaveSmallSteps, IsUnitMarket}
+use Rattle.tn_counts.specs.Widths.{most_set_units, most_unit_amount}
 use Rattle.tn_counts.specs.declared.market.UnitMarket.{UnitMarket}
 use Rattle.tn_counts.specs.declared.set.CountSet.{CountSet}
 use Rattle.tn_counts.specs.declared.trade.UnitAmounts.{UnitAmounts}
@@ -18,9 +28,11 @@ use Rattle.tn_counts.specs.declared.trade.UnitTrade.{UnitTrade}
 use Rattle.tn_counts.proofs.ClimbLemmas.{moved, moved_in}
 use Rattle.tn_counts.proofs.NetLemmas.{between_at}
 use Rattle.tn_counts.proofs.PriceLemmas.{moved_own}
+use Rattle.tn_counts.proofs.SmallLemmas.{units_below, units_total}
 use Rattle.tn_counts.proofs.UtilityLemmas.{when}
 use Rattle.tn_tree.specs.Lists.{count_in, own_counts}
-use Rattle.tn_tree.specs.Nets.{net_at}
+use Rattle.tn_tree.specs.Nets.{most_set_number, most_sum, net_at}
+use Rattle.tn_tree.proofs.NetLemmas.{added, total_next, total_small}
 
 -- ---- amounts
 
@@ -201,3 +213,321 @@ pub utility_own : (market : UnitMarket) (scale : ℤ) (prices : ℕ → ℤ) (f 
 utility_own market scale prices f counts others same =
     ap₂ (λ (o : Option ℤ) (z : ℤ). option_map (λ worth. scale *ℤ worth +ℤ z) o) (worth_own market f counts others same)
     (payments_own market.trades.items prices f counts others same)
+
+-- ---- sizes
+
+pub slight_steps : (steps : List Step) → HaveSmallSteps steps → AreSlight steps
+slight_steps steps small i step at =
+    let own = small i step at in
+    record { low = omega (arith, ints, own.low); high = omega (arith, ints, own.high) }
+
+-- what a set adds at a level
+pub number_small : (set : CountSet) (level : ℕ) → level ≤ room set.steps.items → set.back ≤ room set.steps.items
+    → room set.steps.items ≤ most_set_units → HaveSmallSteps set.steps.items → IsAtMost set.constant most_unit_amount
+    → IsAtMost (set.constant +ℤ (rise set.steps.items level -ℤ rise set.steps.items set.back)) most_set_number
+number_small set level within around few small constant = elim (cases_lt level set.back) [
+  | inl below ↦
+      let d : ℕ = set.back - level in
+      let sum : level + d ≡ set.back = omega (arith, below) in
+      let rises = rise_at_most most_unit_amount set.steps.items level d small in
+      let same = ap (rise set.steps.items) sum in
+      record {
+        low = omega (arith, ints, rises.high, same, sum, around, few, constant.low);
+        high = omega (arith, ints, rises.low, same, sum, around, few, constant.high);
+      }
+  | inr past ↦
+      let d : ℕ = level - set.back in
+      let sum : set.back + d ≡ level = omega (arith, past) in
+      let rises = rise_at_most most_unit_amount set.steps.items set.back d small in
+      let same = ap (rise set.steps.items) sum in
+      record {
+        low = omega (arith, ints, rises.low, same, sum, within, few, constant.low);
+        high = omega (arith, ints, rises.high, same, sum, within, few, constant.high);
+      }
+]
+
+-- what amounts of the first trades add
+pub terms_so_far : (market : UnitMarket) (amounts : List UnitAmounts) (sold bought : List ℕ) (f k : ℕ) → IsUnitMarket market
+    → length amounts ≡ length market.trades.items
+    → ((t : ℕ) (each : UnitAmounts) → slice_get amounts t ≡ Some each
+    → IsAtMost each.seller most_each × IsAtMost each.buyer most_each)
+    → AreCounts market.trades.items (count_in sold) → AreCounts market.trades.items (count_in bought)
+    → k ≤ length market.trades.items
+    → IsAtMost (total (own_term market.trades.items amounts sold bought f) k) (k * 10 ^ 18)
+unfolding total
+terms_so_far market amounts sold bought f zero is sized small few fewer within =
+    record { low = omega (arith, ints); high = omega (arith, ints) }
+terms_so_far market amounts sold bought f (suc k) is sized small few fewer within =
+    let before = terms_so_far market amounts sold bought f k is sized small few fewer (omega (arith, within)) in
+    let trade = trade_at market.trades.items k in
+    let below : k < length market.trades.items = omega (arith, within) in
+    let units = units_below market.trades.items k below in
+    let all = is.few_units in
+    let each = small k (amounts_at amounts k)
+    (slice_get-get_or amounts k (record { seller = pos 0; buyer = pos 0 }) (omega (arith, below, sized))) in
+    let sells = times_small (amounts_at amounts k).seller (count_in sold k) most_each each.0 in
+    let buys = times_small (amounts_at amounts k).buyer (count_in bought k) most_each each.1 in
+    let sold_few = few k below in
+    let bought_few = fewer k below in
+    let first = by (f == trade.seller) ((amounts_at amounts k).seller *ℤ pos (count_in sold k)) (record {
+      low = omega (arith, ints, sells.low, sold_few, units, all);
+      high = omega (arith, ints, sells.high, sold_few, units, all);
+    }) in
+    let second = by (f == trade.buyer) ((amounts_at amounts k).buyer *ℤ pos (count_in bought k)) (record {
+      low = omega (arith, ints, buys.low, bought_few, units, all);
+      high = omega (arith, ints, buys.high, bought_few, units, all);
+    }) in
+    record {
+      low = omega (arith, ints, before.low, first.low, second.low);
+      high = omega (arith, ints, before.high, first.high, second.high);
+    }
+  where
+    by : (b : Bool) (z : ℤ) → IsAtMost z (3 * 10 ^ 17) → IsAtMost (if b then z else pos 0) (3 * 10 ^ 17)
+    by true z small = small
+    by false z small = record { low = omega (arith, ints); high = omega (arith, ints) }
+
+pub terms_sum : (market : UnitMarket) (amounts : List UnitAmounts) (sold bought : List ℕ) (numbers : List ℤ) (f k : ℕ)
+    → IsUnitMarket market → length amounts ≡ length market.trades.items
+    → ((t : ℕ) (each : UnitAmounts) → slice_get amounts t ≡ Some each
+    → IsAtMost each.seller most_each × IsAtMost each.buyer most_each)
+    → AreCounts market.trades.items (count_in sold) → AreCounts market.trades.items (count_in bought)
+    → k ≤ length market.trades.items
+    → get_or numbers f (pos 0) ≡ total (own_term market.trades.items amounts sold bought f) k
+    → IsAtMost (get_or numbers f (pos 0)) (10 ^ 25)
+terms_sum market amounts sold bought numbers f k is sized small few fewer within so_far =
+    let all = terms_so_far market amounts sold bought f k is sized small few fewer within in
+    let trades = is.few_trades in
+    record {
+      low = omega (arith, ints, all.low, so_far, within, trades);
+      high = omega (arith, ints, all.high, so_far, within, trades);
+    }
+
+-- what a number is after those of two ends were added
+pub two_more : (before middle after : List ℤ) (p q v : ℕ) (x y : ℤ) → p < length before → q < length before
+    → middle ≡ set before p (get_or before p (pos 0) +ℤ x) → after ≡ set middle q (get_or middle q (pos 0) +ℤ y)
+    → get_or after v (pos 0) ≡ get_or before v (pos 0)
+    +ℤ ((if v == p then x else pos 0) +ℤ (if v == q then y else pos 0))
+two_more before middle after p q v x y p_in q_in first second =
+    let one = ap (λ (xs : List ℤ). get_or xs v (pos 0)) first ∙ added before p v x p_in in
+    let sized = ap length first ∙ length-set before p (get_or before p (pos 0) +ℤ x) in
+    let two = ap (λ (xs : List ℤ). get_or xs v (pos 0)) second ∙ added middle q v y (omega (arith, q_in, sized)) in
+    omega (arith, ints, one, two)
+
+pub terms_more : (trades : List UnitTrade) (amounts : List UnitAmounts) (sold bought : List ℕ) (numbers : List ℤ) (f k : ℕ)
+    (now : ℤ) → get_or numbers f (pos 0) ≡ total (own_term trades amounts sold bought f) k
+    → now ≡ get_or numbers f (pos 0) +ℤ own_term trades amounts sold bought f k
+    → now ≡ total (own_term trades amounts sold bought f) (k + 1)
+terms_more trades amounts sold bought numbers f k now so_far is =
+    let next = total_next (own_term trades amounts sold bought f) k in
+    omega (arith, ints, so_far, is, next)
+
+pub below_zero : (z : ℤ) → z <ℤ pos 0 → (k : ℕ) × (z ≡ negsuc k)
+below_zero (pos n) below = absurd (omega (arith, ints, below))
+below_zero (negsuc k) below = (k, refl)
+
+pub nothing_added : (c : ℕ → ℤ) (numbers : List ℤ) (f : ℕ) → get_or numbers f (pos 0) ≡ pos 0
+    → get_or numbers f (pos 0) ≡ total c 0
+unfolding total
+nothing_added c numbers f is = is
+
+pub weaker : {z : ℤ} → IsAtMost z (10 ^ 25) → IsAtMost z most_sum
+weaker {z} small = record { low = omega (arith, ints, small.low); high = omega (arith, ints, small.high) }
+
+pub second_small : (market : UnitMarket) (counts : List ℕ) (before after : List ℤ) (p q t : ℕ) (each : ℤ)
+    → IsUnitMarket market → AreCounts market.trades.items (count_in counts) → t < length market.trades.items
+    → p < length before → IsAtMost each most_each
+    → after ≡ set before p (get_or before p (pos 0) +ℤ each *ℤ pos (count_in counts t))
+    → IsAtMost (get_or before q (pos 0)) (10 ^ 25) → IsAtMost (get_or after q (pos 0)) most_sum
+second_small market counts before after p q t each is few below inside small made so_far =
+    let step = ap (λ (xs : List ℤ). get_or xs q (pos 0)) made ∙ added before p q (each *ℤ pos (count_in counts t)) inside in
+    let more = times_small each (count_in counts t) most_each small in
+    let own = few t below in
+    let units = units_below market.trades.items t below in
+    let all = is.few_units in
+    let here = by (q == p) (record {
+      low = omega (arith, ints, more.low, own, units, all);
+      high = omega (arith, ints, more.high, own, units, all);
+    }) in
+    record {
+      low = omega (arith, ints, step, so_far.low, here.low);
+      high = omega (arith, ints, step, so_far.high, here.high);
+    }
+  where
+    by : (b : Bool) → IsAtMost (each *ℤ pos (count_in counts t)) (10 ^ 24)
+        → IsAtMost (if b then each *ℤ pos (count_in counts t) else pos 0) (10 ^ 24)
+    by true small = small
+    by false small = record { low = omega (arith, ints); high = omega (arith, ints) }
+
+-- ---- what all amounts add is small
+
+scaled : (u : ℕ → ℕ) (limit n : ℕ)
+    → (sum : ℕ) × (total (λ t. pos (u t)) n ≡ pos sum) × (total (λ t. pos (u t * limit)) n ≡ pos (sum * limit))
+unfolding total
+scaled u limit zero = (0, refl, omega (arith, ints))
+scaled u limit (suc n) =
+    let before = scaled u limit n in
+    let one = before.1 in
+    let two = before.2 in
+    (before.0 + u n, omega (arith, ints, one), omega (arith, ints, two))
+
+-- at most one end is the firm's
+one_end : (s b : Bool) (x y : ℤ) (most : ℕ) → (s ≡ true → b ≡ false) → IsAtMost x most → IsAtMost y most
+    → ((pos 0 -ℤ pos most) ≤ℤ (when s x +ℤ when b y)) × ((when s x +ℤ when b y) ≤ℤ pos most)
+one_end true true x y most apart first second = absurd (true≢false (apart refl))
+one_end true false x y most apart first second = (omega (arith, ints, first.low), omega (arith, ints, first.high))
+one_end false true x y most apart first second = (omega (arith, ints, second.low), omega (arith, ints, second.high))
+one_end false false x y most apart first second = (omega (arith, ints), omega (arith, ints))
+
+fewer_units : (z : ℤ) (n units limit : ℕ) → IsAtMost z (n * limit) → n ≤ units → IsAtMost z (units * limit)
+fewer_units z n units limit small few =
+    let more = mul-le-mul_right limit few in
+    record { low = omega (arith, ints, small.low, more); high = omega (arith, ints, small.high, more) }
+
+pub amounts_small : (market : UnitMarket) (amounts : List UnitAmounts) (sold bought : List ℕ) (f limit : ℕ)
+    → IsUnitMarket market
+    → ((t : ℕ) → t < length market.trades.items
+    → IsAtMost (amounts_at amounts t).seller limit × IsAtMost (amounts_at amounts t).buyer limit)
+    → AreCounts market.trades.items (count_in sold) → AreCounts market.trades.items (count_in bought)
+    → IsAtMost (amount_sum market.trades.items amounts f (own_counts market.trades.items sold bought f)) (1048576 * limit)
+amounts_small market amounts sold bought f limit is small few fewer =
+    let sum = amounts_own market amounts sold bought f is in
+    let scale = scaled (λ t. (trade_at trades t).units) limit (length trades) in
+    let units = units_total trades in
+    let all = is.few_units in
+    let one = scale.1 in
+    let two = scale.2 in
+    let below : scale.0 ≤ 1048576 = omega (arith, ints, one, units, all) in
+    let most = mul-le-mul_right limit below in
+    let within = total_small (own_term trades amounts sold bought f) (λ t. pos ((trade_at trades t).units * limit))
+    (length trades) (λ t inside. each t inside) in
+    record {
+      low = omega (arith, ints, within.0, sum, two, most);
+      high = omega (arith, ints, within.1, sum, two, most);
+    }
+  where
+    trades : List UnitTrade
+    trades = market.trades.items
+
+    each : (t : ℕ) → t < length trades
+        → ((pos 0 -ℤ pos ((trade_at trades t).units * limit)) ≤ℤ own_term trades amounts sold bought f t)
+        × (own_term trades amounts sold bought f t ≤ℤ pos ((trade_at trades t).units * limit))
+    each t inside =
+        let own = small t inside in
+        one_end (f == (trade_at trades t).seller) (f == (trade_at trades t).buyer)
+        ((amounts_at amounts t).seller *ℤ pos (count_in sold t)) ((amounts_at amounts t).buyer *ℤ pos (count_in bought t))
+        ((trade_at trades t).units * limit)
+        (λ sells. ne_eqb f (trade_at trades t).buyer
+        (λ buys. (between_at market is t inside).apart (sym (eqb-true f (trade_at trades t).seller sells) ∙ buys)))
+        (fewer_units ((amounts_at amounts t).seller *ℤ pos (count_in sold t)) (count_in sold t) (trade_at trades t).units
+        limit (times_small (amounts_at amounts t).seller (count_in sold t) limit own.0) (few t inside))
+        (fewer_units ((amounts_at amounts t).buyer *ℤ pos (count_in bought t)) (count_in bought t)
+        (trade_at trades t).units limit (times_small (amounts_at amounts t).buyer (count_in bought t) limit own.1)
+        (fewer t inside))
+
+-- ---- set by set
+
+pub number_is : (market : UnitMarket) (sold bought : List ℕ) (i : ℕ) (one : CountSet) (net : ℤ) → IsUnitMarket market
+    → slice_get market.sets.items i ≡ Some one → net ≡ net_at market sold bought i
+    → added_at one (net +ℤ pos one.back)
+    ≡ set_number market.trades.items one (own_counts market.trades.items sold bought one.firm)
+number_is market sold bought i one net is at net_is =
+    ap (λ (z : ℤ). added_at one (z +ℤ pos one.back)) (net_is ∙ net_own market sold bought i one is at)
+
+pub worth_step : (market : UnitMarket) (sold bought : List ℕ) (i : ℕ) (one : CountSet) (before after : List (Option ℤ))
+    (number whole : Option ℤ) (f : ℕ) → slice_get market.sets.items i ≡ Some one
+    → number ≡ set_number market.trades.items one (own_counts market.trades.items sold bought one.firm)
+    → one.firm < length before → after ≡ set before one.firm (both (get_or before one.firm None) number)
+    → both (get_or before f None) (set_sum market.trades.items f (own_counts market.trades.items sold bought f)
+    (drop i market.sets.items)) ≡ whole
+    → both (get_or after f None) (set_sum market.trades.items f (own_counts market.trades.items sold bought f)
+    (drop (i + 1) market.sets.items)) ≡ whole
+worth_step market sold bought i one before after number whole f at number_at inside made so_far = elim (cases_eq f one.firm) [
+  | inl own ↦
+      let now : get_or after f None ≡ both (get_or before f None) number =
+      ap (λ (xs : List (Option ℤ)). get_or xs f None) made
+      ∙ ap (λ (k : ℕ). get_or (set before one.firm (both (get_or before one.firm None) number)) k None) own
+      ∙ get_or-set_same before one.firm (both (get_or before one.firm None) number) None inside
+      ∙ ap (λ (k : ℕ). both (get_or before k None) number) (sym own) in
+      let here : number ≡ set_number trades one (own_counts trades sold bought f) =
+      number_at ∙ ap (λ (k : ℕ). set_number trades one (own_counts trades sold bought k)) (sym own) in
+      ap (λ (o : Option ℤ). both o (rest (i + 1))) now ∙ both_assoc (get_or before f None) number (rest (i + 1))
+      ∙ ap (λ (o : Option ℤ). both (get_or before f None) (both o (rest (i + 1)))) here
+      ∙ sym (ap (both (get_or before f None)) (sets_here trades f (own_counts trades sold bought f) market.sets.items i one at
+      ∙ ap (λ (b : Bool). if b then both (set_number trades one (own_counts trades sold bought f)) (rest (i + 1))
+      else rest (i + 1)) (eq-eqb f one.firm own)))
+      ∙ so_far
+  | inr other ↦
+      let now : get_or after f None ≡ get_or before f None =
+      ap (λ (xs : List (Option ℤ)). get_or xs f None) made
+      ∙ get_or-set_other before one.firm f (both (get_or before one.firm None) number) None other in
+      ap (λ (o : Option ℤ). both o (rest (i + 1))) now
+      ∙ sym (ap (both (get_or before f None)) (sets_here trades f (own_counts trades sold bought f) market.sets.items i one at
+      ∙ ap (λ (b : Bool). if b then both (set_number trades one (own_counts trades sold bought f)) (rest (i + 1))
+      else rest (i + 1)) (ne_eqb f one.firm other)))
+      ∙ so_far
+]
+  where
+    trades : List UnitTrade
+    trades = market.trades.items
+
+    rest : ℕ → Option ℤ
+    rest k = set_sum trades f (own_counts trades sold bought f) (drop k market.sets.items)
+
+pub small_step : (i firm : ℕ) (before after : List (Option ℤ)) (number : Option ℤ) (f : ℕ) (worth : ℤ)
+    → firm < length before → after ≡ set before firm (both (get_or before firm None) number)
+    → ((g : ℕ) (value : ℤ) → get_or before g None ≡ Some value → IsAtMost value (20971520000000 + i * most_set_number))
+    → ((value : ℤ) → number ≡ Some value → IsAtMost value most_set_number)
+    → get_or after f None ≡ Some worth → IsAtMost worth (20971520000000 + (i + 1) * most_set_number)
+small_step i firm before after number f worth inside made so_far small is = elim (cases_eq f firm) [
+  | inl own ↦
+      let now : get_or after f None ≡ both (get_or before firm None) number =
+      ap (λ (xs : List (Option ℤ)). get_or xs f None) made
+      ∙ ap (λ (k : ℕ). get_or (set before firm (both (get_or before firm None) number)) k None) own
+      ∙ get_or-set_same before firm (both (get_or before firm None) number) None inside in
+      let parts = both_parts (get_or before firm None) number worth (sym now ∙ is) in
+      let one = so_far firm parts.first parts.first_is in
+      let two = small parts.second parts.second_is in
+      let sum = parts.sum_is in
+      record { low = omega (arith, ints, one.low, two.low, sum); high = omega (arith, ints, one.high, two.high, sum) }
+  | inr other ↦
+      let now : get_or after f None ≡ get_or before f None =
+      ap (λ (xs : List (Option ℤ)). get_or xs f None) made
+      ∙ get_or-set_other before firm f (both (get_or before firm None) number) None other in
+      let one = so_far f worth (sym now ∙ is) in
+      record { low = omega (arith, ints, one.low); high = omega (arith, ints, one.high) }
+]
+
+pub all_added : (w whole : Option ℤ) → both w (Some (pos 0)) ≡ whole → w ≡ whole
+all_added None whole is = is
+all_added (Some a) whole is = let same : a ≡ a +ℤ pos 0 = omega (arith, ints) in ap Some same ∙ is
+
+-- ---- the amounts of a market
+
+pub small_amounts : (market : UnitMarket) → IsUnitMarket market → (t : ℕ) → t < length market.trades.items
+    → IsAtMost (amounts_at market.amounts.items t).seller most_unit_amount
+    × IsAtMost (amounts_at market.amounts.items t).buyer most_unit_amount
+small_amounts market is t below =
+    let sized = is.as_many in
+    let small = is.small t (amounts_at market.amounts.items t)
+    (slice_get-get_or market.amounts.items t (record { seller = pos 0; buyer = pos 0 }) (omega (arith, below, sized))) in
+    (small.seller, small.buyer)
+
+pub slight_amounts : (amounts : List UnitAmounts) → HaveSmallAmounts amounts → (t : ℕ) (each : UnitAmounts)
+    → slice_get amounts t ≡ Some each → IsAtMost each.seller most_each × IsAtMost each.buyer most_each
+slight_amounts amounts small t each at =
+    let own = small t each at in
+    let seller = own.seller in
+    let buyer = own.buyer in (
+      record { low = omega (arith, ints, seller.low); high = omega (arith, ints, seller.high) },
+      record { low = omega (arith, ints, buyer.low); high = omega (arith, ints, buyer.high) },
+    )
+
+pub some_at : (xs : List ℤ) (f : ℕ) → f < length xs → get_or (map Some xs) f None ≡ Some (get_or xs f (pos 0))
+some_at [] f below = absurd (omega (arith, below))
+some_at (x ∷ xs) zero below = refl
+some_at (x ∷ xs) (suc f) below = some_at xs f (omega (arith, below))
+
+pub some_is : (xs : List ℤ) (f : ℕ) (value : ℤ) → get_or (map Some xs) f None ≡ Some value → get_or xs f (pos 0) ≡ value
+some_is [] f value is = absurd (none-some value is)
+some_is (x ∷ xs) zero value is = same_Some x value is
+some_is (x ∷ xs) (suc f) value is = some_is xs f value is

@@ -8,6 +8,7 @@ mod flow;
 mod nets;
 mod settled;
 mod solve;
+mod worths;
 
 pub use best::{BestCounts, best_counts};
 pub use solve::{Solved, solve_market};
