@@ -10,6 +10,10 @@ pub mod WorthLemmas
 pub mod UtilityLemmas
 pub mod PriceLemmas
 pub mod PlainLemmas
+pub mod ApartLemmas
 pub mod SurplusLemmas
+pub mod ReachLemmas
+pub mod BoundLemmas
+pub mod RangeLemmas
 pub mod CheckLemmas
 pub mod SizeLemmas

@@ -6,3 +6,4 @@ pub mod Markets
 pub mod Tree
 pub mod Laws
 pub mod Outcomes
+pub mod Ranges

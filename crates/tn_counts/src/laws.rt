@@ -2,6 +2,7 @@
 //! costs nothing.
 
 ghost use Rattle.tn_counts.specs.Laws.{CyclesGainByCounts, EquilibriaByCountsAreEfficient, FlowsAreCounts, LabelsArePrices, LabelsMakeEquilibria, LinksArePlain, NegativeCyclesBarEquilibria};
+ghost use Rattle.tn_counts.specs.Ranges.{PricesAreLeastWalks};
 
 /// An equilibrium by counts has the greatest surplus, over all counts: in the sum of the firms' utilities the price of
 /// each unit is paid once and received once (the first welfare theorem of trading networks: Hatfield, Kominers, Nichifor,
@@ -40,4 +41,12 @@ pub fn cycles_gain_by_counts()
 /// Where the graph of a flow has a negative cycle, no prices make its counts an equilibrium, over any denominator.
 pub fn negative_cycles_bar_equilibria()
     ensures { NegativeCyclesBarEquilibria }
+{}
+
+/// Over the graph of a settled flow least walks from null and to null are the highest and the lowest prices of all
+/// equilibria, whatever the counts in them; and all highest prices, where each trade has one, make an equilibrium, as do
+/// all lowest ones (the lattice of prices: Gul and Stacchetti, 1999, and Hatfield, Kominers, Nichifor, Ostrovsky and
+/// Westkamp, 2013; by least walks, Murota, 2003).
+pub fn prices_are_least_walks()
+    ensures { PricesAreLeastWalks }
 {}

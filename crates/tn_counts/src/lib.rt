@@ -14,6 +14,7 @@ pub use contract::UnitContract;
 pub use laws::{
     cycles_gain_by_counts, equilibria_by_counts_are_efficient, flows_are_counts, labels_are_prices,
     labels_make_equilibria, links_are_plain, negative_cycles_bar_equilibria,
+    prices_are_least_walks,
 };
 pub use market::{Pin, UnitMarket};
 pub use set::CountSet;

@@ -10,3 +10,4 @@ pub mod TotalLemmas
 pub mod LawLemmas
 pub mod GainLemmas
 pub mod SearchLemmas
+pub mod SizeLemmas

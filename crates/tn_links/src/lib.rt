@@ -12,9 +12,11 @@ mod push;
 mod searching;
 mod settling;
 mod shown;
+mod walks;
 
 pub use checks::{are_plain, has_steps};
 pub use laws::{cycles_gain_what_they_cost, labels_are_greatest};
 pub use link::{Link, Step, rise, room};
 pub use links::Links;
 pub use settling::settle;
+pub use walks::{unit_labels, walks_from, walks_to};

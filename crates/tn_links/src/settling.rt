@@ -8,9 +8,9 @@ ghost use Rattle.tn_links.specs.Laws.{IsGreatest};
 ghost use Rattle.tn_links.specs.Lots.{link_arc};
 
 use crate::links::Links;
-use crate::lots::LotGraph;
 use crate::push::push_round;
 use crate::searching::send_lots;
+use crate::walks::unit_labels;
 use tn_cycle::{Finder, Labels};
 
 /// Looks for labels that keep the graph with lots of one unit, and says whether there are some. Otherwise a unit is sent
@@ -25,12 +25,7 @@ fn round(links: &Links, levels: &mut [u32], finder: &mut Finder) -> bool
     ensures gained { result ≡ false
         → total_gain links.now.links.items levels.old <ℤ total_gain links.now.links.items levels.new }
 {
-    let found = finder.labels(&LotGraph {
-        links,
-        levels,
-        lot: 1,
-    });
-    match found {
+    match unit_labels(links, levels, finder) {
         Labels::Feasible => true,
         Labels::Negative { .. } => {
             push_round(links, levels, finder.listed(), 1);
