@@ -53,6 +53,7 @@ pub fn settle(links: &Links, levels: &mut [u32], finder: &mut Finder, before: &m
     requires as_many { before.old.nodes ≡ links.now.nodes }
     requires kept { IsKeptFlow links.now.links.items levels.old }
     ensures kept { IsKeptFlow links.now.links.items levels.new }
+    ensures fits { finder.new.nodes ≡ links.now.nodes }
     ensures settled { AreLabels links.now.nodes (link_arc links.now.links.items levels.new 1) finder.new.labels }
     ensures greatest { IsGreatest links.now.links.items levels.new }
 {

@@ -7,3 +7,4 @@ pub mod AroundLemmas
 pub mod BuildLemmas
 pub mod ConstantLemmas
 pub mod SolveLemmas
+pub mod RangeLemmas

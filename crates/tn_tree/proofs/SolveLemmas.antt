@@ -41,7 +41,7 @@ pub sized_by : {A : Type 0} (f : ℕ → A) (list : List A) (n size : ℕ) → l
 sized_by f list n size made sized = ap length made ∙ length-map-range_with_len f 0 n ∙ sized
 
 -- the levels of the links from a place on
-levels_read : (levels counts : List ℕ) (n place base t : ℕ)
+pub levels_read : (levels counts : List ℕ) (n place base t : ℕ)
     → counts ≡ map (λ k. get_or levels (place + k) 0) (range_with_len 0 n) → t < n → place + t ≡ base + t
     → get_or levels (base + t) 0 ≡ count_in counts t
 levels_read levels counts n place base t made below same =

@@ -3,3 +3,4 @@ pub mod Lists
 pub mod Nets
 pub mod Levels
 pub mod Shapes
+pub mod Ranges

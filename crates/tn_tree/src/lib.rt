@@ -6,9 +6,11 @@ mod best;
 mod build;
 mod flow;
 mod nets;
+mod range;
 mod settled;
 mod solve;
 mod worths;
 
 pub use best::{BestCounts, best_counts};
+pub use range::{UnitRange, UnitRanges, range_market};
 pub use solve::{Solved, solve_market};

@@ -23,6 +23,7 @@ pub(crate) fn settled(
     requires sized { links.now.nodes ≡ nodes }
     requires fits { finder.old.nodes ≡ nodes }
     ensures kept { IfOk result (λ levels. IsKeptFlow links.now.links.items levels.items) }
+    ensures same_nodes { finder.new.nodes ≡ nodes }
     ensures labelled { IfOk result (λ levels. AreLabels nodes (link_arc links.now.links.items levels.items 1)
         finder.new.labels) }
 {
