@@ -8,3 +8,6 @@ pub mod BuildLemmas
 pub mod ConstantLemmas
 pub mod SolveLemmas
 pub mod RangeLemmas
+pub mod WalkLemmas
+pub mod StepLemmas
+pub mod SupportLemmas

@@ -1,13 +1,13 @@
 -- What least walks over the links of a market say in lists of ranges.
-use Rattle.std.proofs.Common.{◌≡◌, ◌≢◌, ℕ, zero, suc, ◌+◌, ◌-◌, ◌*◌, ◌<◌, ◌≤◌, ◌⊎◌, inl, inr, List, [], ◌∷◌, ◌++◌, length, map, get_or, Option, Some, None, option_map, refl, sym, ap, ◌∙◌, subst, arith, ℤ, pos}
+use Rattle.std.proofs.Common.{◌≡◌, ◌≢◌, ℕ, zero, suc, ◌+◌, ◌*◌, ◌<◌, ◌⊎◌, inl, inr, List, [], ◌∷◌, ◌++◌, length, map, get_or, Option, Some, None, option_map, refl, sym, ap, ◌∙◌, subst, arith, ℤ, pos}
 use Rattle.std.specs.Prelude.{All, IfSome, neg_ℤ, slice_get}
 use Rattle.std.specs.List.{range_with_len}
 use Rattle.std.proofs.lemmas.Int.{ints}
 use Rattle.std.proofs.lemmas.List.{length-append}
-use Rattle.std.proofs.lemmas.List.Elements.{All-cons, All-from_get_or}
+use Rattle.std.proofs.lemmas.List.Elements.{All-cons}
 use Rattle.std.proofs.lemmas.List.FromFn.{length-map-range_with_len}
 use Rattle.std.proofs.lemmas.Option.{none-some, same_Some, slice_get-get_or, slice_get_within}
-use Rattle.tn_base.specs.Arcs.{AreBetweenNodes, AreSmall, IsAtMost}
+use Rattle.tn_base.specs.Arcs.{AreBetweenNodes, IsAtMost}
 use Rattle.tn_cycle.specs.Answers.{AreLabels, LeadsLeast, distance_in, label_in, walk_in}
 use Rattle.tn_cycle.specs.Reading.{Reading}
 use Rattle.tn_cycle.proofs.WalkLemmas.{apart_from_different, avoids-cons, few_apart, walk_inside, walk_small}
@@ -15,7 +15,6 @@ use Rattle.tn_links.specs.declared.link.Link.{Link}
 use Rattle.tn_links.specs.Flows.{IsKeptFlow}
 use Rattle.tn_links.specs.LotLemmas.{between-link_arc}
 use Rattle.tn_links.specs.Lots.{link_arc}
-use Rattle.tn_counts.specs.Counts.{IsEfficientByCounts, IsEquilibriumByCounts}
 use Rattle.tn_counts.specs.Laminar.{firms_of}
 use Rattle.tn_counts.specs.Markets.{IsUnitMarket}
 use Rattle.tn_counts.specs.Ranges.{IsHighestByCounts, IsLowestByCounts, IsSettled, LeadFromNull, LeadToNull}

@@ -24,13 +24,13 @@ use Rattle.tn_counts.specs.declared.market.Pin.{Pin}
 use Rattle.tn_counts.specs.declared.market.UnitMarket.{UnitMarket}
 use Rattle.tn_counts.proofs.PlainLemmas.{links_plain}
 use Rattle.tn_counts.proofs.PriceLemmas.{prices_are}
-use Rattle.tn_counts.proofs.SizeLemmas.{market_gain_small, unit_arcs_small}
+use Rattle.tn_counts.proofs.SizeLemmas.{unit_arcs_small}
 use Rattle.tn_counts.proofs.SurplusLemmas.{best_same, equilibrium_same, flows_counts, labels_equilibrium, prices_same, surplus_same}
 use Rattle.tn_tree.proofs.BuildLemmas.{range_get}
 use Rattle.tn_tree.specs.Lists.{count_in, own_counts, pin_of, price_in}
 
 -- a number of a list that is made by number
-read_at : {A : Type 0} (f : ℕ → A) (list : List A) (n t : ℕ) (d : A) → list ≡ map f (range_with_len 0 n) → t < n
+pub read_at : {A : Type 0} (f : ℕ → A) (list : List A) (n t : ℕ) (d : A) → list ≡ map f (range_with_len 0 n) → t < n
     → f t ≡ get_or list t d
 read_at f list n t d made below =
     let place : 0 + t ≡ t = omega arith in

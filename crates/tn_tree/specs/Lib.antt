@@ -3,4 +3,6 @@ pub mod Lists
 pub mod Nets
 pub mod Levels
 pub mod Shapes
+pub mod Steps
+pub mod Supports
 pub mod Ranges

@@ -1,5 +1,5 @@
 -- The ranges of the prices of all trades, and by which least walks they are found.
-use Rattle.std.specs.Prelude.{◌≡◌, ℕ, ◌+◌, ◌<◌, ℤ, pos, neg_ℤ, List, length, slice_get, Option, Some, option_map, IfSome}
+use Rattle.std.specs.Prelude.{◌≡◌, ℕ, ◌+◌, ℤ, pos, neg_ℤ, List, length, slice_get, Some, option_map, IfSome}
 use Rattle.tn_base.specs.Arcs.{IsAtMost}
 use Rattle.tn_counts.specs.Counts.{IsEfficientByCounts, IsEquilibriumByCounts}
 use Rattle.tn_counts.specs.Laminar.{firms_of}

@@ -9,8 +9,12 @@ mod nets;
 mod range;
 mod settled;
 mod solve;
+mod steps;
+mod support;
 mod worths;
 
 pub use best::{BestCounts, best_counts};
 pub use range::{UnitRange, UnitRanges, range_market};
 pub use solve::{Solved, solve_market};
+pub use steps::UnitStep;
+pub use support::UnitSupport;

@@ -52,7 +52,11 @@ pub(crate) fn levels_from(
 }
 
 /// The price of each trade: its label less that of null.
-fn prices_by(alloc: Global, market: &UnitMarket, finder: &Finder) -> Result<Vec<i128>, OutOfMemory>
+pub(crate) fn prices_by(
+    alloc: Global,
+    market: &UnitMarket,
+    finder: &Finder,
+) -> Result<Vec<i128>, OutOfMemory>
     requires market { IsUnitMarket market.now }
     requires labelled { length finder.now.labels ≡ suc (null_node market.now) }
     requires small { (v : ℕ) → v < length finder.now.labels → IsAtMost (label_in finder.now.labels v) most_read }
