@@ -52,12 +52,12 @@ def of_examples() -> list[Run]:
 
 def drawn(count: int) -> list[Run]:
     """Documents that tools/fuzz draws, each with one command after another."""
-    documents = importlib.import_module("fuzz_lib.documents")
-    examples = [path.read_text() for path in documents.small_examples(ROOT / "examples")]
+    documents, counted = (importlib.import_module(f"fuzz_lib.{name}") for name in ("documents", "unit_documents"))
+    examples, with_units = documents.small_examples(ROOT / "examples")
     runs = []
     for k in range(count):
         draw = random.Random(f"page-{k}")
-        document, is_refused = documents.make(draw, examples)
+        document, is_refused = counted.make_units(draw, with_units) if k % 6 == 5 else documents.make(draw, examples)
         text = json.dumps(document, ensure_ascii=k % 2 == 0).encode()
         text = documents.spoil(draw, text) if is_refused else text
         runs += [Run(f"drawn {k}", words, text) for words in (COMMANDS[k % len(COMMANDS)], COMMANDS[(k + 4) % len(COMMANDS)])]

@@ -1,7 +1,7 @@
 """Documents that are drawn, and changes of them."""
 import json
 
-from fuzz_lib.limits import LIMITS, NUMERATOR, OVER, PRICE, SETS
+from fuzz_lib.limits import LIMITS, NUMERATOR, OVER, PRICE, SETS, UNIT_VERSION
 from fuzz_lib.network import laminar_worth
 
 NO = ("better", "impossible", "exchange_fails", "cycle", "drops", "blocks", "invalid")
@@ -238,12 +238,14 @@ def spoil(draw, text):
 
 
 def small_examples(folder):
-    """The files of the examples that are small enough to be asked thousands of times."""
-    return [path for path in sorted(folder.glob("*.json")) if path.stat().st_size <= 20_000]
+    """The texts of the examples that are small enough to be asked thousands of times: those of versions 1 to 3, and those with units."""
+    texts = [path.read_text() for path in sorted(folder.glob("*.json")) if path.stat().st_size <= 20_000]
+    counted = [text for text in texts if json.loads(text)["version"] == UNIT_VERSION]
+    return [text for text in texts if text not in counted], counted
 
 
 def make(draw, examples):
-    """A document, and whether it is one to be refused."""
+    """A document of versions 1 to 3, and whether it is one to be refused."""
     turn = draw.randrange(3)
     document = draw_document(draw) if turn == 0 or draw.random() < 0.3 else json.loads(draw.choice(examples))
     if turn == 0 and draw.random() < 0.06:
