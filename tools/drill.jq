@@ -2,9 +2,12 @@
 # trades of `drill` it goes on in the same way, up to 1,024: beyond 240 with two, three and more times as many firms, so that none
 # has more than 60 own trades. Needs jq 1.6 or later, called without input:
 #   jq -n -c --argjson size 3 --argjson start 1 -f drill.jq
+# With `--argjson units 200` too, each trade has so many units, in a document of version 4 of up to 4,096 trades: each step of a
+# producer and of a consumer is of so many, and a middleman is a firm that passes on up to so many. So 1 says the same network.
 
+$ARGS.named.units as $units
 # how many times the firms of a small network there are: a middleman has at most a quarter of each 240 trades
-([$size / 240 | ceil, 1] | max) as $times
+| ([$size / 240 | ceil, 1] | max) as $times
 | def over($n): . / $n | floor;
 # (products stay below 2^53, up to which jq counts exactly: the multiplier is taken in two parts)
 def next: (. * 16838 % 2147483648 * 65536 + . * 20077 + 12345) % 2147483648;
@@ -25,11 +28,15 @@ reduce range($size) as $i ({state: $start, trades: []};
 | def sales($firm): [$trades[] | select(.seller == $firm)];
   def purchases($firm): [$trades[] | select(.buyer == $firm)];
   def laminar($own; $at; $from; $values):
-    {kind: "laminar", amounts: ($own | map([.name, .numbers[$at]])), sets: [{trades: ($own | map(.name)), from: $from, values: $values}]};
-  {version: (if $size > 128 then 3 elif $size > 64 then 2 else 1 end),
+    {kind: "laminar", amounts: ($own | map([.name, .numbers[$at]])), sets: [{trades: ($own | map(.name))}
+      + if $units then {(if $from < 0 then "sold" else "bought" end): [[$units, -1], [$units, -3], [$units, -5]]} else {from: $from, values: $values} end]};
+  def middleman($purchases; $sales):
+    if $units then {kind: "laminar", amounts: [($purchases[] | [.name, -.numbers[1]]), ($sales[] | [.name, .numbers[0]])],
+      sets: [{trades: ($purchases + $sales | map(.name))}, {trades: ($purchases | map(.name)), bought: [[$units, 0]]}]}
+    else {kind: "middleman", costs: ($purchases | map([.name, .numbers[1]])), gains: ($sales | map([.name, .numbers[0]]))} end;
+  {version: (if $units then 4 elif $size > 128 then 3 elif $size > 64 then 2 else 1 end),
    firms: (
      [range(4 * $times) | "P\(.)" | {name: .} + laminar(sales(.); 0; -3; [-9, -4, -1, 0])]
-     + [range(8 * $times) | "M\(.)" | {name: ., kind: "middleman",
-          costs: (purchases(.) | map([.name, .numbers[1]])), gains: (sales(.) | map([.name, .numbers[0]]))}]
+     + [range(8 * $times) | "M\(.)" | {name: .} + middleman(purchases(.); sales(.))]
      + [range(4 * $times) | "C\(.)" | {name: .} + laminar(purchases(.); 1; 0; [0, -1, -4, -9])]),
-   trades: ($trades | map({name, seller, buyer}))}
+   trades: ($trades | map({name, seller, buyer} + if $units then {units: $units} else {} end))}
