@@ -1,196 +1,20 @@
 """What is said of the faults of documents: what stands at the place of a fault, and what is wanted there.
 
-`str(fault)` says it. The number, the name and the place of a fault are the program's; the tables here are those of
-page/read/shapes.js and limits.js, and the sentences are those of tools/explain in English, which tools/words_test holds to
-each other.
+`str(fault)` says it. The number, the name and the place of a fault are the program's; the tables of fault_tables.py are
+those of page/read/shapes.js and limits.js, and the sentences are those of tools/explain in English, which
+tools/words_test holds to each other.
 """
 from __future__ import annotations
 
 import json
 import re
-from typing import Any, Callable, Optional, Union
+from typing import Any, Callable, Optional
+
+from .fault_tables import (CLAIMED, LIMITS, OF_KINDS, OF_MEMBERS, OF_UNITS, SHAPES, TEXTS, UNIT_LIMITS, UNIT_SHAPES,
+                           UNIT_VERSION, WORDS, Bound)
 
 MOST_BYTES, DEEPEST, LARGEST = 4_194_304, 127, 2 ** 63
 MOST_SIGNS, MOST_NAMES = 40, 8
-
-SHAPES: dict[str, dict[str, Any]] = {
-    "document": {"needs": {"version": "version", "firms": "firms", "trades": "trades"},
-                 "may": {"arrangement": "arrangement", "outcome": "outcome", "claim": "claim", "edits": "edits",
-                         "note": "note"}},
-    "firms": {"each": "firm"}, "firm": {"needs": {"name": "name", "kind": "kind"}},
-    "table": {"needs": {"name": "name", "kind": "kind", "rows": "rows"}, "may": {"note": "note"}},
-    "laminar": {"needs": {"name": "name", "kind": "kind"},
-                "may": {"amounts": "entries", "sets": "sets", "note": "note"}},
-    "middleman": {"needs": {"name": "name", "kind": "kind"},
-                  "may": {"costs": "entries", "gains": "entries", "keep": "number_or_null", "note": "note"}},
-    "dealer": {"needs": {"name": "name", "kind": "kind"}, "may": {"pairs": "pairs", "note": "note"}},
-    "trades": {"each": "trade"},
-    "trade": {"needs": {"name": "name", "seller": "firm_name", "buyer": "firm_name"}, "may": {"note": "note"}},
-    "rows": {"each": "row"}, "row": {"items": ["bundle", "number"]}, "bundle": {"each": "trade_name"},
-    "entries": {"each": "entry"}, "entry": {"items": ["trade_name", "number"]},
-    "sets": {"each": "set"}, "set": {"needs": {"trades": "bundle", "from": "number", "values": "numbers"}},
-    "numbers": {"each": "number"},
-    "pairs": {"each": "pair"}, "pair": {"items": ["trade_name", "trade_name", "number"]},
-    "arrangement": {"needs": {"on": "bundle", "prices": "entries"}},
-    "outcome": {"needs": {"over": "number", "contracts": "entries"}},
-    "edits": {"each": "edit"}, "edit": {"items": ["deed", "name"]},
-    "claim": {"needs": {"answer": "answer"}}, "nodes": {"each": "node"}, "plan": {"each": "part"},
-    "part": {"items": ["firm_name", "bundle", "number"]},
-}
-
-CLAIMED: dict[str, dict[str, str]] = {
-    "equilibrium": {"surplus": "number"}, "better": {"firm": "firm_name", "bundle": "bundle", "gain": "number"},
-    "impossible": {"firm": "firm_name"}, "prices": {"prices": "entries"}, "cycle": {"nodes": "nodes", "cost": "number"},
-    "solved": {"on": "bundle", "prices": "entries", "surplus": "number"},
-    "drops": {"firm": "firm_name", "keeps": "bundle", "gain": "number_or_null", "over": "number"},
-    "completes": {"prices": "entries", "over": "number"}, "blocks": {"contracts": "entries", "over": "number"},
-    "accepted": {}, "exchange_fails": {"firm": "firm_name", "x": "bundle", "y": "bundle", "at": "node"},
-    "none": {"plan": "plan", "over": "number"},
-}
-
-WORDS: dict[str, list[str]] = {"version": ["1", "2", "3"], "kind": ["table", "laminar", "middleman", "dealer"],
-         "deed": ["admit", "bar", "leave", "join"], "answer": list(CLAIMED)}
-
-_FEW: dict[str, int] = {"own": 32, "farthest": 32, "values": 65, "edits": 256, "amount": 10 ** 9, "over": 10 ** 5}
-
-LIMITS: dict[str, dict[str, int]] = {"1": {"most": 64, **_FEW}, "2": {"most": 128, **_FEW},
-          "3": {"most": 1024, "own": 60, "farthest": 60, "values": 121, "edits": 2048, "amount": 10 ** 7,
-                "over": 10 ** 6}}
-
-# The limits by the member, or the kind of firm, that has them: a part of LIMITS and how much more, or one for all versions.
-_Bound = Union[int, tuple[str, int]]
-_OF_MEMBERS: dict[str, _Bound] = {
-    "firms": ("most", 0), "trades": ("most", 0), "edits": ("edits", 0), "nodes": ("most", 1), "sets": 64,
-    "values": ("values", 0), "from": ("farthest", 0), "plan": 1024}
-_OF_KINDS: dict[str, _Bound] = {"table": 14, "laminar": ("own", 0), "middleman": ("own", 0), "dealer": ("own", 0)}
-
-TEXTS: dict[str, Any] = {
-    "fault.problem": "Line {line}, column {column}: {problem}.",
-    "fault.problem_at": "Line {line}, column {column}: {problem}; here stands {found}.",
-    "fault.problem_end": "Line {line}, column {column}: {problem}; here the text ends.",
-    "fault.length": "{length} bytes; a document has at most 4,194,304.",
-    "fault.too_long": "A document has at most 4,194,304 bytes.",
-    "shape.member_near": "{member} is no member of {thing}; did you mean {near}?",
-    "shape.member": "{member} is no member of {thing}; the members are {needs}.",
-    "shape.member_may": "{member} is no member of {thing}; the members are {needs}, and there may be {may}.",
-    "shape.missing": "The member {member} is missing here; {thing} has one.",
-    "shape.missing_near": "The member {member} is missing here, and {thing} has one; is it what {near} should be?",
-    "shape.part": "There is no {member} in the document, and the command needs one.",
-    "shape.wrong": "Here {wanted} is wanted, not {found}.",
-    "shape.wrong_near": "Here {wanted} is wanted, not {found}; did you mean {near}?",
-    "shape.minus_zero": "Here a whole number is wanted, and `-0` is none; write `0`.",
-    "shape.too_large": "Here a whole number is wanted that fits 64 bits with a sign, not {number}.",
-    "thing.document": "a document", "thing.firm": "a firm", "thing.table": "a table", "thing.laminar": "a laminar firm",
-    "thing.middleman": "a middleman", "thing.dealer": "a dealer", "thing.trade": "a trade", "thing.set": "a set",
-    "thing.arrangement": "an arrangement", "thing.outcome": "an outcome", "thing.claim": "a claim",
-    "thing.claimed": "a claim {answer}",
-    "wanted.object": "an object", "wanted.version": "one of the versions {words}",
-    "wanted.kind": "one of the kinds {words}", "wanted.deed": "one of the edits {words}",
-    "wanted.answer": "one of the answers {words}", "wanted.firms": "a list of firms",
-    "wanted.trades": "a list of trades", "wanted.rows": "a list of rows",
-    "wanted.row": "a list of two, a bundle and a number", "wanted.bundle": "a list of names of trades",
-    "wanted.entries": "a list of entries", "wanted.entry": "a list of two, the name of a trade and a number",
-    "wanted.sets": "a list of sets", "wanted.number": "a whole number", "wanted.numbers": "a list of whole numbers",
-    "wanted.number_or_null": "a whole number or `null`", "wanted.pairs": "a list of pairs",
-    "wanted.pair": "a list of three, a purchase, a sale and a number", "wanted.edits": "a list of edits",
-    "wanted.edit": "a list of two, what is done and a name", "wanted.nodes": "a list of names of trades and `null`",
-    "wanted.node": "the name of a trade or `null`", "wanted.plan": "a list of parts",
-    "wanted.part": "a list of three, the name of a firm, a bundle and a number", "wanted.name": "a name in quotes",
-    "wanted.firm_name": "the name of a firm in quotes", "wanted.trade_name": "the name of a trade in quotes",
-    "shown.object": "an object", "shown.list": "a list of {length}", "shown.text": "the text {text}",
-    "name.rule": "{name} is no name; a name has 1 to 32 characters, each an ASCII letter, an ASCII digit, _, - or a "
-        "point.",
-    "name.taken_firm": "{name} is the name of firm {first} already (counted from 0); firm {index} needs another one.",
-    "name.taken_trade": "{name} is the name of trade {first} already (counted from 0); trade {index} needs another "
-        "one.",
-    "name.trade_not_firm": "{name} is a trade, and here a firm is wanted.",
-    "name.no_firm_near": "{name} is no firm; did you mean {near}?",
-    "name.no_firm": "{name} is no firm; the firms are {names}.",
-    "name.no_firms": "{name} is no firm; the document has none.",
-    "name.firm_not_trade": "{name} is a firm, and here a trade is wanted.",
-    "name.no_trade_near": "{name} is no trade; did you mean {near}?",
-    "name.no_trade": "{name} is no trade; the trades are {names}.",
-    "name.no_trades": "{name} is no trade; the document has none.",
-    "name.no_purchase": "{trade} is a sale of {firm}, and here a purchase is wanted.",
-    "name.no_sale": "{trade} is a purchase of {firm}, and here a sale is wanted.",
-    "name.not_own": "{trade} is sold by {seller} to {buyer}, and is no trade of {firm}, whose trades are {names}.",
-    "name.none_own": "{trade} is sold by {seller} to {buyer}, and is no trade of {firm}, which has none.",
-    "name.twice": "{trade} is named in item {first} of this list already (counted from 0); a trade stands in it once.",
-    "name.no_price": "{trade} has no price; `prices` has an entry for each trade, also for one that isn't on.",
-    "part.itself": "{firm} would sell {trade} to itself; seller and buyer are two different firms.",
-    "part.bundle": "Row {first} has the bundle {bundle} already (counted from 0); each bundle has one row.",
-    "part.no_values": "There are no values, and one for the net count 0 is wanted.",
-    "part.no_zero": "The values are those of the net counts {from} to {last}, and one for 0 is wanted.",
-    "part.crosses": "It has {common} in common with set {first} (counted from 0), and neither contains the other; "
-        "sets are apart, or one within the other.",
-    "part.bent": "{value} is below the middle of its neighbours {before} and {after}; each step adds at most what "
-        "the step before it added.",
-    "part.fails": "A bundle without a row is impossible: look first whether {x}, {y} and those between them all have "
-        "their rows.",
-    "part.pair": "Pair {first} has {purchase} and {sale} already (counted from 0); the two are a pair once.",
-    "limit.firms": {
-        "one": "{count} firm; a document of version {version} has at most {most}.",
-        "other": "{count} firms; a document of version {version} has at most {most}.",
-    },
-    "limit.trades": {
-        "one": "{count} trade; a document of version {version} has at most {most}.",
-        "other": "{count} trades; a document of version {version} has at most {most}.",
-    },
-    "limit.edits": {
-        "one": "{count} edit; a document of version {version} has at most {most}.",
-        "other": "{count} edits; a document of version {version} has at most {most}.",
-    },
-    "limit.nodes": {
-        "one": "{count} node; a cycle of a document of version {version} has 2 to {most}.",
-        "other": "{count} nodes; a cycle of a document of version {version} has 2 to {most}.",
-    },
-    "limit.sets": {
-        "one": "{count} set; a laminar firm has at most {most}.",
-        "other": "{count} sets; a laminar firm has at most {most}.",
-    },
-    "limit.values": {
-        "one": "{count} value; a set in a document of version {version} has at most {most}.",
-        "other": "{count} values; a set in a document of version {version} has at most {most}.",
-    },
-    "limit.plan": {
-        "one": "{count} part; a plan has at most {most}.",
-        "other": "{count} parts; a plan has at most {most}.",
-    },
-    "limit.plan_trades": {
-        "one": "{count} trade; a document whose claim is a plan has at most 20.",
-        "other": "{count} trades; a document whose claim is a plan has at most 20.",
-    },
-    "limit.from": "{count}; a set in a document of version {version} begins from -{most} to {most}.",
-    "limit.rows": {
-        "one": "{count} row; a table of {own} trades has a row for each of the {bundles} bundles that aren't empty.",
-        "other": "{count} rows; a table of {own} trades has a row for each of the {bundles} bundles that aren't empty.",
-    },
-    "limit.table": "{count} trades; a table has at most {most}.",
-    "limit.laminar": "{count} trades; a laminar firm in a document of version {version} has at most {most}.",
-    "limit.middleman": "{count} trades; a middleman in a document of version {version} has at most {most}.",
-    "limit.dealer": "{count} trades; a dealer in a document of version {version} has at most {most}.",
-    "limit.wider": "{told} Version {version} has room for {most}.",
-    "beyond.amount": "{value} is out of range; a number of a firm in a document of version {version} is at most "
-        "{most} in size.",
-    "beyond.price": "{value} is out of range; a price is at most 100,000,000,000,000 in size.",
-    "beyond.numerator": "{value} is out of range; the numerator of a price is at most 100,000,000,000 in size.",
-    "beyond.claim": "{value} is out of range; a number of a claim is at most 1,000,000,000,000,000,000 in size.",
-    "beyond.weight": "{value} is out of range; the weight of a part is from 1 to {most}.",
-    "beyond.claim_over": "{value} is out of range; the denominator of a claim is from 1 to {most}.",
-    "beyond.outcome_over": "{value} is out of range; the denominator of an outcome is from 1 to 100.",
-    "json.mark": "a byte order mark (U+FEFF) stands before the text, which JSON hasn't: save it as UTF-8 without one",
-    "json.utf16": "the bytes begin with the byte order mark of UTF-16: save the text as UTF-8",
-    "json.no_utf8": "the byte 0x{byte} is no UTF-8 here: save the text as UTF-8",
-    "json.more": "there is more after the value", "json.ends": "a value is wanted",
-    "json.deep": "values nest more than {most} deep", "json.no_value": "no value begins like this",
-    "json.list": "a list goes on by , or ends by ]", "json.member": "a member begins with its name in double quotes",
-    "json.colon": "a : is wanted after the name of a member", "json.object": "an object goes on by , or ends by }",
-    "json.digits": "a number has digits", "json.number": "a number doesn't go on like this",
-    "json.too_large": "the number is too large for a float", "json.open": "a text isn't closed",
-    "json.control": "a text has a control character", "json.escape": "no escape is written like this",
-    "json.half": "half a character", "json.four_digits": "an escape has four digits",
-    "list.some": "{most} and {last}", "list.more": "{names} and {rest} more",
-}
 
 
 # Words
@@ -455,6 +279,12 @@ def _objects(value: Any) -> list[dict[str, Any]]:
     return [each for each in value if isinstance(each, dict)] if isinstance(value, list) else []
 
 
+def _has_units(data: Any) -> bool:
+    """Whether a document is one in which trades have units."""
+    version = data.get("version") if isinstance(data, dict) else None
+    return isinstance(version, _Numeral) and version == UNIT_VERSION
+
+
 class _Network:
     """A document's firms and trades, as far as it is read."""
 
@@ -462,7 +292,8 @@ class _Network:
         top = data if isinstance(data, dict) else {}
         self.data, self.version = data, top.get("version")
         self.firms, self.trades = _objects(top.get("firms")), _objects(top.get("trades"))
-        self.limits = LIMITS[self.version if self.version in WORDS["version"] else "1"]
+        self.has_units = _has_units(data)
+        self.limits = UNIT_LIMITS if self.has_units else LIMITS.get(str(self.version), LIMITS["1"])
 
     def names(self, part: list[dict[str, Any]]) -> list[str]:
         return [each["name"] for each in part]
@@ -475,7 +306,8 @@ class _Network:
 
 def _shape_at(data: Any, place: list[Any]) -> Optional[dict[str, Any]]:
     """The shape that is wanted at a place, with its name; None where no value is wanted."""
-    shape, value = _shape("document", data), data
+    shapes = {**SHAPES, **UNIT_SHAPES} if _has_units(data) else SHAPES
+    shape, value = _shape(shapes, "document", data), data
     for step in place:
         items, members = shape.get("items", []), {**shape.get("needs", {}), **shape.get("may", {})}
         by_index = dict(enumerate(items)).get(step, shape.get("each"))
@@ -483,18 +315,18 @@ def _shape_at(data: Any, place: list[Any]) -> Optional[dict[str, Any]]:
         if name is None:
             return None
         value = _found(value, [step])
-        shape = _shape(name, value)
+        shape = _shape(shapes, name, value)
     return shape
 
 
-def _shape(name: str, value: Any) -> dict[str, Any]:
+def _shape(shapes: dict[str, dict[str, Any]], name: str, value: Any) -> dict[str, Any]:
     """A shape by its name; of firms and claims it is that of their kind, where they have one."""
     own = value.get({"firm": "kind", "claim": "answer"}.get(name, "")) if isinstance(value, dict) else None
-    if name == "firm" and _is_text(own) and own in WORDS["kind"]:
-        return {"name": own, **SHAPES[own]}
+    if name == "firm" and _is_text(own) and own in WORDS[shapes["firm"]["needs"]["kind"]]:
+        return {"name": own, **shapes[own]}
     if name == "claim" and _is_text(own) and own in CLAIMED:
         return {"name": name, "claimed": own, "needs": {**SHAPES["claim"]["needs"], **CLAIMED[own]}}
-    return {"name": name, **SHAPES.get(name, {})}
+    return {"name": name, **shapes.get(name, {})}
 
 
 def _shape_line(network: _Network, place: list[Any], value: Any) -> Optional[str]:
@@ -503,8 +335,10 @@ def _shape_line(network: _Network, place: list[Any], value: Any) -> Optional[str
         return _missing_line(network.data, place)
     if shape is None:
         return None
+    if shape["name"] == "version" and network.has_units:
+        return _say("shape.no_units")
     if isinstance(value, dict) and "needs" in shape:
-        return _member_line(shape, list(value))
+        return _member_line(shape, list(value)) or _form_line(shape, list(value))
     words = WORDS.get(shape["name"], [])
     wanted = _say("wanted.object") if "needs" in shape else _wanted(shape["name"])
     if isinstance(value, _Numeral) and re.fullmatch(r"-?[0-9]+", value):
@@ -527,6 +361,12 @@ def _member_line(shape: dict[str, Any], names: list[str]) -> Optional[str]:
         return _say("shape.member_near", **values, near=_quoted(near))
     values.update(needs=_members(needs), may=_members(may) if may else "")
     return _say("shape.member_may" if may else "shape.member", **values)
+
+
+def _form_line(shape: dict[str, Any], names: list[str]) -> Optional[str]:
+    """The members of a set that is written in two forms, or in half of one."""
+    form = [name for name in names if name in ("bought", "sold", "from", "values")]
+    return _say("shape.form", members=_members(form)) if shape["name"] == "set" else None
 
 
 def _missing_line(data: Any, place: list[Any]) -> str:
@@ -583,12 +423,32 @@ def _limit_line(network: _Network, place: list[Any], value: Any) -> Optional[str
         return _say("limit.rows", count=len(value), own=own, bundles=_large(2 ** own - 1))
     if place == ["claim"]:
         return _say("limit.plan_trades", count=len(network.trades))
-    if firm is None or last in _OF_MEMBERS:
-        return _bound_line(network, last, _OF_MEMBERS[last], int(value) if last == "from" else len(value))
-    return _bound_line(network, firm["kind"], _OF_KINDS[firm["kind"]], own)
+    if network.has_units:
+        return _unit_limit_line(network, place, value)
+    if firm is None or last in OF_MEMBERS:
+        return _bound_line(network, last, OF_MEMBERS[last], int(value) if last == "from" else len(value))
+    return _bound_line(network, firm["kind"], OF_KINDS[firm["kind"]], own)
 
 
-def _bound_line(network: _Network, name: str, bound: _Bound, count: int) -> str:
+def _unit_limit_line(network: _Network, place: list[Any], value: Any) -> str:
+    """The same where trades have units."""
+    last, version = place[-1], network.version
+    if isinstance(last, int):
+        earlier = network.firms[place[1]]["sets"][:place[3]]
+        held = next(name for name in value["trades"]
+                    if sum(name in each["trades"] for each in earlier) >= UNIT_LIMITS["holding"])
+        return _say("limit.holding", trade=_quoted(held), version=version, most=UNIT_LIMITS["holding"])
+    if last == "sets":
+        count = sum(len(firm.get("sets", [])) for firm in network.firms[:place[1] + 1])
+        return _say("limit.all_sets", count=count, version=version, most=_large(UNIT_LIMITS["sets"]))
+    if last != "trades" or len(value) > UNIT_LIMITS["trades"]:
+        return _bound_line(network, "steps" if last in ("bought", "sold") else last, OF_UNITS[last],
+                           int(value) if last == "from" else len(value))
+    count = sum(int(trade.get("units", 1)) for trade in network.trades)
+    return _say("limit.all_units", count=_large(count), version=version, most=_large(UNIT_LIMITS["units"]))
+
+
+def _bound_line(network: _Network, name: str, bound: Bound, count: int) -> str:
     """A limit with what was found, and the first version that has room for it, where one has."""
     def most(limits: dict[str, int]) -> int:
         return bound if isinstance(bound, int) else limits[bound[0]] + bound[1]
@@ -602,12 +462,21 @@ def _bound_line(network: _Network, name: str, bound: _Bound, count: int) -> str:
 
 def _range_line(network: _Network, place: list[Any], number: str) -> str:
     value, part = _numeral(number), place[0]
+    if place[-1] == "units":
+        return _say("beyond.units", value=value, most=_large(UNIT_LIMITS["units"]))
+    if _is_of_step(place) and place[-1] == 0:
+        return _say("beyond.step_units", value=value, most=_large(UNIT_LIMITS["units"]))
     if part == "firms":
         return _say("beyond.amount", value=value, version=network.version, most=_large(network.limits["amount"]))
     if part == "claim" and place[1] == "plan":
         return _say("beyond.weight", value=value, most=_large(network.limits["over"]))
     keys = {"arrangement": "beyond.price", "outcome": "beyond.numerator", "claim": "beyond.claim"}
     return _say(keys[part], value=value)
+
+
+def _is_of_step(place: list[Any]) -> bool:
+    """Whether a place is in a step of a set, whose first value is how many units and whose second is what each adds."""
+    return len(place) > 3 and place[-3] in ("bought", "sold")
 
 
 def _over_line(network: _Network, place: list[Any], value: str) -> str:
@@ -703,8 +572,18 @@ def _cross(one: set[Any], other: set[Any]) -> bool:
 
 
 def _bent_line(network: _Network, place: list[Any], value: str) -> str:
+    if _is_of_step(place):
+        return _rising_line(network, place, value)
     values, at = _part(network.data, place[:-1]), place[-1]
     return _say("part.bent", value=value, before=values[at - 1], after=values[at + 1])
+
+
+def _rising_line(network: _Network, place: list[Any], value: str) -> str:
+    """A step that adds more than the one before it, or more than the first one of the other list takes away."""
+    part, at = _part(network.data, place[:-3]), place[-2]
+    if at > 0:
+        return _say("part.rising", value=value, before=part[place[-3]][at - 1][1])
+    return _say("part.rising_at_none", value=value, bought=part["bought"][0][1])
 
 
 def _same_pair_line(network: _Network, place: list[Any], pair: list[Any]) -> str:

@@ -4,10 +4,10 @@ from __future__ import annotations
 from dataclasses import dataclass
 from typing import Optional
 
-from .faults import LIMITS
+from .fault_tables import LIMITS, UNIT_LIMITS
 from .tables import Trouble
 
-TABLE, SETS, MOST_UNITS = 14, 64, 1_048_576
+TABLE, SETS, MOST_UNITS = 14, 64, UNIT_LIMITS["units"]
 
 
 @dataclass(frozen=True)
@@ -49,7 +49,8 @@ class Needs:
 OF_LOTS = tuple(Version(int(number), each["most"], each["most"], each["own"], each["amount"], each["edits"])
                 for number, each in LIMITS.items())
 """The versions in which a trade is one unit."""
-OF_UNITS = Version(4, 1_024, 4_096, 4_096, 10_000_000, 2_048, 4_096)
+OF_UNITS = Version(4, UNIT_LIMITS["most"], UNIT_LIMITS["trades"], UNIT_LIMITS["trades"], UNIT_LIMITS["amount"], 2_048,
+                   UNIT_LIMITS["sets"])
 """The version in which a trade has units, and no firm is a table."""
 
 

@@ -10,11 +10,26 @@ export const VERSIONS = new Map([[1n, {most: 64, ...FEW}], [2n, {most: 128, ...F
 /** The limits of the version that has room for most. */
 export const LARGEST = [...VERSIONS.values()].at(-1);
 
+/** The version in which trades have units. */
+export const UNIT_VERSION = 4n;
+
+/**
+ * The limits where trades have units: the most firms; the most trades; the most sets of all firms; the most units of a trade, of a
+ * step and of all trades together; how many sets of a firm may hold one trade; the most steps of a list; and how far from 0 a set
+ * begins, how many numbers it has, and the largest number of a firm.
+ */
+export const UNIT_LIMITS = {most: 1024, trades: 4096, sets: 4096, units: 1048576, holding: 16, steps: 256, farthest: 256, values: 513, amount: 10n ** 7n};
+
+/** Whether a document is one in which trades have units, by its plain data. */
+export function hasUnits(data) {
+    return data.version === UNIT_VERSION;
+}
+
 /**
  * The limits of a network's version, those of the first where it has none: the most firms, and trades; the most trades of a firm
  * that is no table; how far from 0 a set begins, and how many numbers it has; edits; the largest number of a firm; and the
- * largest denominator of a claim.
+ * largest denominator of a claim. (Where trades have units they are UNIT_LIMITS.)
  */
 export function limitsOf(network) {
-    return VERSIONS.get(network.data.version) ?? VERSIONS.get(1n);
+    return hasUnits(network.data) ? UNIT_LIMITS : VERSIONS.get(network.data.version) ?? VERSIONS.get(1n);
 }

@@ -1,5 +1,6 @@
 // What is wanted where in a document, as docs/FORMAT.md has it: the program decides by its own rules, and sentences about faults look
 // here for the members of an object and for what a value should have been. package/trading_networks/faults.py has the same tables.
+import {hasUnits} from "./limits.js";
 
 /** Shapes by their names. An object has members that it needs and may have, each with its shape; a list has the shape of each item, or one for each place. */
 export const SHAPES = {
@@ -20,6 +21,14 @@ export const SHAPES = {
     claim: {needs: {answer: "answer"}}, nodes: {each: "node"}, plan: {each: "part"}, part: {items: ["firm_name", "bundle", "number"]},
 };
 
+/** The shapes that are others where trades have units, and those that are there alone. */
+export const UNIT_SHAPES = {
+    firm: {needs: {name: "name", kind: "unit_kind"}},
+    trade: {needs: {name: "name", seller: "firm_name", buyer: "firm_name"}, may: {units: "number", note: "note"}},
+    set: {needs: {trades: "bundle"}, may: {bought: "steps", sold: "steps", from: "number", values: "numbers"}},
+    steps: {each: "step"}, step: {items: ["number", "number"]},
+};
+
 /** The further members of a claim, all of which it needs, by its answer. */
 export const CLAIMED = {
     equilibrium: {surplus: "number"}, better: {firm: "firm_name", bundle: "bundle", gain: "number"}, impossible: {firm: "firm_name"},
@@ -30,24 +39,25 @@ export const CLAIMED = {
 };
 
 /** The words of which one is wanted, by the shape. */
-export const WORDS = {version: ["1", "2", "3"], kind: ["table", "laminar", "middleman", "dealer"], deed: ["admit", "bar", "leave", "join"],
+export const WORDS = {version: ["1", "2", "3", "4"], kind: ["table", "laminar", "middleman", "dealer"], unit_kind: ["laminar"], deed: ["admit", "bar", "leave", "join"],
     answer: Object.keys(CLAIMED)};
 
 /** The shape that is wanted at a place of plain data, as `{name, claimed, needs, may, each, items}`; null where no value is wanted. */
 export function shapeAt(data, place) {
-    let shape = shapeOf("document", data), value = data;
+    const shapes = hasUnits(data) ? {...SHAPES, ...UNIT_SHAPES} : SHAPES;
+    let shape = shapeOf(shapes, "document", data), value = data;
     for (const step of place) {
         const name = typeof step === "bigint" ? shape.each ?? shape.items?.[Number(step)] : shape.needs?.[step] ?? shape.may?.[step];
         if (name === undefined) return null;
         value = value?.[step];
-        shape = shapeOf(name, value);
+        shape = shapeOf(shapes, name, value);
     }
     return shape;
 }
 
 /** A shape by its name; of firms and claims it is that of their kind, where they have one. */
-function shapeOf(name, value) {
-    if (name === "firm" && WORDS.kind.includes(value?.kind)) return {name: value.kind, ...SHAPES[value.kind]};
-    if (name !== "claim" || !WORDS.answer.includes(value?.answer)) return {name, ...SHAPES[name]};
+function shapeOf(shapes, name, value) {
+    if (name === "firm" && WORDS[shapes.firm.needs.kind].includes(value?.kind)) return {name: value.kind, ...shapes[value.kind]};
+    if (name !== "claim" || !WORDS.answer.includes(value?.answer)) return {name, ...shapes[name]};
     return {name, claimed: value.answer, needs: {...SHAPES.claim.needs, ...CLAIMED[value.answer]}};
 }

@@ -47,6 +47,6 @@ const CAPTIONS = {
     },
     fault: ({fault, name, place}) => {
         const at = place.length > 0 ? [say("caption.fault_at", {place: wayTo(place)})] : [];
-        return [say("caption.fault", {fault, name, cause: cause(fault)}), ...at];
+        return [say("caption.fault", {fault, name, cause: cause(fault, place)}), ...at];
     },
 };

@@ -2,7 +2,7 @@
 // the program's; the last sentence is also what package/trading_networks/faults.py says.
 import {find, lineAndColumn, plain} from "../read/json.js";
 import {say} from "../words/say.js";
-import {limitLine, overLine, rangeLine} from "./bounds.js";
+import {isOfStep, limitLine, overLine, rangeLine} from "./bounds.js";
 import {bentLine, crossingLine, failsLine, noZeroLine, sameBundleLine, samePairLine, selfTradeLine} from "./parts.js";
 import {nameLine, noFirmLine, noPriceLine, notOwnLine, noTradeLine, sameTradeLine, takenLine} from "./references.js";
 import {shapeLine} from "./shape.js";
@@ -19,15 +19,15 @@ const LINES = {4: nameLine, 5: takenLine, 6: noFirmLine, 7: selfTradeLine, 8: no
 
 const MOST_BYTES = 4194304;
 
-/** What a fault says, by its number. */
-export function cause(fault) {
-    return say(CAUSES[Number(fault)] ?? "cause.unknown");
+/** What a fault says, by its number, and by its place where it is one of steps. */
+export function cause(fault, place) {
+    return say(Number(fault) === 15 && isOfStep(place) ? "cause.rises" : CAUSES[Number(fault)] ?? "cause.unknown");
 }
 
 /** A fault in sentences. */
 export function faultLines(network, said) {
     const {fault, name, place} = said, found = network.problem ? null : find(network.root, place);
-    return [say("fault.head", {cause: cause(fault), fault, name}), whereIs(network, fault, place, found),
+    return [say("fault.head", {cause: cause(fault, place), fault, name}), whereIs(network, fault, place, found),
         foundLine(network, said, found)].filter(Boolean);
 }
 

@@ -1,5 +1,6 @@
 // Faults of what a firm's parts say together: rows and pairs that stand twice, sets, and a trade within one firm.
 import {say} from "../words/say.js";
+import {isOfStep} from "./bounds.js";
 import {partAt} from "./references.js";
 import {quoted, set} from "./words.js";
 
@@ -27,8 +28,16 @@ export function crossingLine(network, place, {trades}) {
 }
 
 export function bentLine(network, place, value) {
+    if (isOfStep(place)) return risingLine(network, place, value);
     const at = Number(place[place.length - 1]), values = partAt(network, place.slice(0, -1));
     return say("part.bent", {value, before: values[at - 1], after: values[at + 1]});
+}
+
+/** A step that adds more than the one before it, or more than the first one of the other list takes away. */
+function risingLine(network, place, value) {
+    const at = Number(place.at(-2)), set = partAt(network, place.slice(0, -3));
+    return at > 0 ? say("part.rising", {value, before: set[place.at(-3)][at - 1][1]})
+        : say("part.rising_at_none", {value, bought: set.bought[0][1]});
 }
 
 export function failsLine(network, place, value, {x, y}) {

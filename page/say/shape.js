@@ -1,4 +1,5 @@
 // What is wrong with the shape of a value: a member that isn't allowed, one that is missing, or another kind of value than is wanted.
+import {hasUnits} from "../read/limits.js";
 import {nearest} from "../read/near.js";
 import {shapeAt, WORDS} from "../read/shapes.js";
 import {say} from "../words/say.js";
@@ -7,7 +8,7 @@ import {listed, numeral, quoted} from "./words.js";
 const THINGS = {document: "thing.document", firm: "thing.firm", table: "thing.table", laminar: "thing.laminar", middleman: "thing.middleman",
     dealer: "thing.dealer", trade: "thing.trade", set: "thing.set", arrangement: "thing.arrangement", outcome: "thing.outcome", claim: "thing.claim"};
 
-const WANTED = {version: "wanted.version", kind: "wanted.kind", deed: "wanted.deed", answer: "wanted.answer", firms: "wanted.firms",
+const WANTED = {version: "wanted.version", kind: "wanted.kind", unit_kind: "wanted.unit_kind", steps: "wanted.steps", step: "wanted.step", deed: "wanted.deed", answer: "wanted.answer", firms: "wanted.firms",
     trades: "wanted.trades", rows: "wanted.rows", row: "wanted.row", bundle: "wanted.bundle", entries: "wanted.entries", entry: "wanted.entry",
     sets: "wanted.sets", number: "wanted.number", numbers: "wanted.numbers", number_or_null: "wanted.number_or_null", pairs: "wanted.pairs",
     pair: "wanted.pair", edits: "wanted.edits", edit: "wanted.edit", nodes: "wanted.nodes", node: "wanted.node", plan: "wanted.plan",
@@ -21,7 +22,8 @@ export function shapeLine(network, place, found) {
     if (!found.whole) return missingLine(network, place);
     if (shape === null) return null;
     const {kind, value} = found.node;
-    if (kind === "object" && shape.needs) return memberLine(shape, [...value.keys()]);
+    if (shape.name === "version" && hasUnits(network.data)) return say("shape.no_units");
+    if (kind === "object" && shape.needs) return memberLine(shape, [...value.keys()]) ?? formLine(shape, [...value.keys()]);
     const wanted = shape.needs ? say("wanted.object") : wantedOf(shape.name), near = nearOf(shape, kind, value);
     if (kind === "number" && /^-?\d+$/.test(value.text)) return wholeLine(shape, value.text, wanted);
     return near === undefined ? say("shape.wrong", {wanted, found: shown(found.node)})
@@ -42,6 +44,12 @@ function memberLine(shape, names) {
     if (near !== undefined) return say("shape.member_near", {member: quoted(member), thing, near: quoted(near)});
     const values = {member: quoted(member), thing, needs: membersOf(needs)};
     return Object.keys(may).length === 0 ? say("shape.member", values) : say("shape.member_may", {...values, may: membersOf(may)});
+}
+
+/** The members of a set that is written in two forms, or in half of one. */
+function formLine({name}, names) {
+    const form = names.filter((each) => ["bought", "sold", "from", "values"].includes(each));
+    return name === "set" ? say("shape.form", {members: listed(form.map(quoted))}) : null;
 }
 
 /** A member that is missing, perhaps since its name is written otherwise. */

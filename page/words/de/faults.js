@@ -24,6 +24,7 @@ export const FAULTS = {
         same_bundle: "eine frühere Zeile hat dasselbe Bündel", at_zero: "die Menge hat keine Zahl beim Saldo 0",
         crosses: "die Menge überschneidet sich mit einer früheren",
         concave: "die Zahl liegt unter der Mitte ihrer beiden Nachbarn",
+        rises: "eine Stufe bringt mehr als die davor",
         exchange: "die Tabelle erfüllt die Tauscheigenschaft nicht",
         twice: "das Geschäft ist in einer Liste zweimal genannt",
         no_price: "das Geschäft hat keinen Preis",
@@ -41,6 +42,8 @@ export const FAULTS = {
         wrong_near: "Hier ist {wanted} verlangt, nicht {found}; ist {near} gemeint?",
         minus_zero: "Hier ist eine ganze Zahl verlangt, und `-0` ist keine; zu schreiben ist `0`.",
         too_large: "Hier ist eine ganze Zahl verlangt, die mit Vorzeichen in 64 Bits passt, nicht {number}.",
+        no_units: "In Version 4 haben Geschäfte Einheiten, und nur `solve` und `test` beantworten ein solches Dokument.",
+        form: "Eine Menge hat `bought` und `sold` oder `from` mit `values`; diese hat {members}.",
     },
     thing: {
         document: "ein Dokument", firm: "eine Firma", table: "eine Tabelle", laminar: "eine laminare Firma",
@@ -50,6 +53,8 @@ export const FAULTS = {
     },
     wanted: {
         object: "ein Objekt", version: "eine der Versionen {words}", kind: "eine der Arten {words}",
+        unit_kind: "die Art {words}", steps: "eine Liste von Stufen",
+        step: "eine Liste von zweien, der Zahl der Einheiten und dem, was jede bringt",
         deed: "eine der Änderungen {words}", answer: "eine der Antworten {words}", firms: "eine Liste von Firmen",
         trades: "eine Liste von Geschäften", rows: "eine Liste von Zeilen",
         row: "eine Liste von zweien, einem Bündel und einer Zahl", bundle: "eine Liste von Namen von Geschäften",
@@ -93,6 +98,9 @@ export const FAULTS = {
             + "sind getrennt, oder eine liegt in der anderen.",
         bent: "{value} liegt unter der Mitte der Nachbarn {before} und {after}; jeder Schritt bringt höchstens so viel "
             + "wie der Schritt davor.",
+        rising: "{value} ist mehr als {before}, was jede Einheit der Stufe davor bringt; was Einheiten bringen, steigt nie.",
+        rising_at_none: "Die erste gekaufte Einheit bringt {bought} und die erste verkaufte {value}, zusammen mehr als 0; was "
+            + "Einheiten bringen, steigt nie.",
         fails: "Ein Bündel ohne Zeile ist unmöglich: Zuerst ist zu sehen, ob {x}, {y} und die dazwischen alle ihre Zeilen "
             + "haben.",
         pair: "Paar {first} hat schon {purchase} und {sale} (ab 0 gezählt); die beiden sind einmal ein Paar.",
@@ -122,6 +130,17 @@ export const FAULTS = {
             one: "{count} Zahl; eine Menge in einem Dokument der Version {version} hat höchstens {most}.",
             other: "{count} Zahlen; eine Menge in einem Dokument der Version {version} hat höchstens {most}.",
         },
+        all_sets: {
+            one: "{count} Menge dieser und der früheren Firmen; alle Firmen eines Dokuments der Version {version} haben höchstens {most}.",
+            other: "{count} Mengen dieser und der früheren Firmen; alle Firmen eines Dokuments der Version {version} haben höchstens "
+                + "{most}.",
+        },
+        all_units: "{count} Einheiten; alle Geschäfte eines Dokuments der Version {version} haben zusammen höchstens {most}.",
+        holding: "{trade} ist schon in {most} früheren Mengen, und ein Geschäft eines Dokuments der Version {version} ist in nicht mehr.",
+        steps: {
+            one: "{count} Stufe; eine Liste in einem Dokument der Version {version} hat höchstens {most}.",
+            other: "{count} Stufen; eine Liste in einem Dokument der Version {version} hat höchstens {most}.",
+        },
         plan: {
             one: "{count} Teil; ein Plan hat höchstens {most}.", other: "{count} Teile; ein Plan hat höchstens {most}.",
         },
@@ -145,6 +164,8 @@ export const FAULTS = {
     beyond: {
         amount: "{value} liegt außerhalb des Bereichs; eine Zahl einer Firma in einem Dokument der Version {version} hat "
             + "höchstens den Betrag {most}.",
+        units: "{value} liegt außerhalb des Bereichs; ein Geschäft hat 1 bis {most} Einheiten.",
+        step_units: "{value} liegt außerhalb des Bereichs; eine Stufe hat 1 bis {most} Einheiten.",
         price: "{value} liegt außerhalb des Bereichs; ein Preis hat höchstens den Betrag 100.000.000.000.000.",
         numerator: "{value} liegt außerhalb des Bereichs; der Zähler eines Preises hat höchstens den Betrag "
             + "100.000.000.000.",

@@ -23,7 +23,7 @@ export const FAULTS = {
         number: "a number is out of its range", not_its: "the trade isn't one that the firm has there",
         same_bundle: "an earlier row has the same bundle", at_zero: "the set has no number at the net count 0",
         crosses: "the set crosses an earlier one",
-        concave: "the number is below the middle of its two neighbours",
+        concave: "the number is below the middle of its two neighbours", rises: "a step adds more than the one before it",
         exchange: "the table doesn't meet the exchange property",
         twice: "the trade is named twice in one list", no_price: "the trade has no price",
         denominator: "the denominator is out of its range",
@@ -40,6 +40,8 @@ export const FAULTS = {
         wrong_near: "Here {wanted} is wanted, not {found}; did you mean {near}?",
         minus_zero: "Here a whole number is wanted, and `-0` is none; write `0`.",
         too_large: "Here a whole number is wanted that fits 64 bits with a sign, not {number}.",
+        no_units: "In version 4 trades have units, and only `solve` and `test` answer such a document.",
+        form: "A set has `bought` and `sold`, or `from` with `values`; this one has {members}.",
     },
     thing: {
         document: "a document", firm: "a firm", table: "a table", laminar: "a laminar firm", middleman: "a middleman",
@@ -48,6 +50,8 @@ export const FAULTS = {
     },
     wanted: {
         object: "an object", version: "one of the versions {words}", kind: "one of the kinds {words}",
+        unit_kind: "the kind {words}", steps: "a list of steps",
+        step: "a list of two, how many units and what each adds",
         deed: "one of the edits {words}", answer: "one of the answers {words}", firms: "a list of firms",
         trades: "a list of trades", rows: "a list of rows", row: "a list of two, a bundle and a number",
         bundle: "a list of names of trades", entries: "a list of entries",
@@ -86,6 +90,9 @@ export const FAULTS = {
             + "apart, or one within the other.",
         bent: "{value} is below the middle of its neighbours {before} and {after}; each step adds at most what the step "
             + "before it added.",
+        rising: "{value} is more than {before}, which each unit of the step before adds; what units add never rises.",
+        rising_at_none: "The first unit bought adds {bought} and the first one sold {value}, which is more than 0 together; what "
+            + "units add never rises.",
         fails: "A bundle without a row is impossible: look first whether {x}, {y} and those between them all have "
             + "their rows.",
         pair: "Pair {first} has {purchase} and {sale} already (counted from 0); the two are a pair once.",
@@ -115,6 +122,16 @@ export const FAULTS = {
             one: "{count} value; a set in a document of version {version} has at most {most}.",
             other: "{count} values; a set in a document of version {version} has at most {most}.",
         },
+        all_sets: {
+            one: "{count} set of this and the earlier firms; all firms of a document of version {version} have at most {most}.",
+            other: "{count} sets of this and the earlier firms; all firms of a document of version {version} have at most {most}.",
+        },
+        all_units: "{count} units; all trades of a document of version {version} have at most {most} together.",
+        holding: "{trade} is in {most} earlier sets already, and a trade of a document of version {version} is in no more.",
+        steps: {
+            one: "{count} step; a list in a document of version {version} has at most {most}.",
+            other: "{count} steps; a list in a document of version {version} has at most {most}.",
+        },
         plan: {
             one: "{count} part; a plan has at most {most}.", other: "{count} parts; a plan has at most {most}.",
         },
@@ -138,6 +155,8 @@ export const FAULTS = {
     beyond: {
         amount: "{value} is out of range; a number of a firm in a document of version {version} is at most {most} in "
             + "size.",
+        units: "{value} is out of range; a trade has 1 to {most} units.",
+        step_units: "{value} is out of range; a step has 1 to {most} units.",
         price: "{value} is out of range; a price is at most 100,000,000,000,000 in size.",
         numerator: "{value} is out of range; the numerator of a price is at most 100,000,000,000 in size.",
         claim: "{value} is out of range; a number of a claim is at most 1,000,000,000,000,000,000 in size.",
