@@ -20,7 +20,7 @@ taken. `timeout` is in seconds, and None for no limit. Each question is a proces
 page's module answers all that have no `timeout`; `stream` asks one process about any number of documents.
 """
 from .answers import (Accepted, Answer, Better, Blocks, Completes, Cycle, Drops, Equilibrium, ExchangeFails, Firm, Firms,
-                      Impossible, Invalid, Prices, Range, Ranges, Session, Solved, State, Valid)
+                      Impossible, Invalid, Prices, Range, Ranges, Session, Solved, SolvedByCounts, State, Valid)
 from .assignments import assignment
 from .contributions import FirmMarginal, Marginals, TradeMarginal, clarke, marginals
 from .documents import Document
@@ -40,7 +40,7 @@ __all__ = [
     "ABSENT", "Accepted", "Answer", "Asked", "Better", "Blocks", "Completes", "Cycle", "Document", "DocumentWarning",
     "Drops", "Equilibrium", "ExchangeFails", "Fault", "Firm", "FirmMarginal", "Firms", "Impossible", "Invalid",
     "Marginals", "MarketError", "NoMemory", "NoProgram", "Prices", "Range", "Ranges", "ReadFailed", "Session",
-    "Shown", "Solved", "State", "TimedOut", "TradeMarginal", "Trouble", "Unexpected", "Usage",
+    "Shown", "Solved", "SolvedByCounts", "State", "TimedOut", "TradeMarginal", "Trouble", "Unexpected", "Usage",
     "Valid", "WriteFailed", "ask", "assignment", "check", "clarke", "find", "firms", "from_lanes", "from_networkx",
     "highest", "judge", "lowest", "marginals", "middle", "no_prices", "ranges", "replay", "session", "solve",
     "stream", "support", "test",

@@ -8,9 +8,11 @@ from fractions import Fraction
 from typing import Any, ClassVar, Iterable, Mapping, Optional, Sequence, Union
 
 from . import graphs, plots
+from .fault_tables import UNIT_VERSION as UNIT_NUMERAL
 from .plots import needed
 
 Json = dict[str, Any]
+UNIT_VERSION = int(UNIT_NUMERAL)
 
 
 @dataclass(frozen=True)
@@ -127,6 +129,24 @@ class Solved(_OfTrades):
     def arrangement(self) -> Json:
         """The equilibrium as a document's `arrangement`, for `check`, `support` and `firms`."""
         return _arrangement(self.on, self.prices)
+
+
+@dataclass(frozen=True)
+class SolvedByCounts(Solved):
+    """Of `solve` where trades have units (documents of version 4): an equilibrium by counts. on: the trades of which some
+    units go. prices: of a unit of every trade. surplus: that of the counts; no counts have more. units: a dictionary from
+    every trade to how many of its units go, int. It is no claim."""
+    units: dict[str, int]
+
+    def rows(self) -> list[Json]:
+        """A row for each trade: `trade`, `seller`, `buyer`, how many units are `on`, `price`."""
+        return [{**row, "on": self.units[row["trade"]]} for row in super().rows()]
+
+    @property
+    def arrangement(self) -> Json:
+        """The equilibrium as a document's `arrangement`, in which `on` has the units of each trade that goes."""
+        on = [[trade, units] for trade, units in self.units.items() if units > 0]
+        return {"on": on, "prices": [[trade, price] for trade, price in self.prices.items()]}
 
 
 @dataclass(frozen=True)
@@ -449,7 +469,16 @@ def object_of(said: Json, asked: bytes, yes: bool) -> Answer:
     if kind is Invalid:
         members = {name: value for name, value in said.items() if name not in ("answer", "reason")}
         return Invalid(said, asked, yes, said["reason"], members)
+    if kind is Solved and _has_units(said, asked):
+        units = {trade: 0 for trade, _ in said["prices"]} | dict(said["on"])
+        on = tuple(trade for trade, _ in said["on"])
+        return SolvedByCounts(said, asked, yes, on, dict(said["prices"]), said["surplus"], units)
     return kind(said, asked, yes, *(_member(name, said[name], said.get("over")) for name in _members(kind.answer)))
+
+
+def _has_units(said: Json, asked: bytes) -> bool:
+    """Whether an answer of `solve` tells units. Where nothing goes only the document says so."""
+    return isinstance(said["on"][0], list) if said["on"] else json.loads(asked)["version"] == UNIT_VERSION
 
 
 def _member(name: str, value: Any, over: Optional[int]) -> Any:

@@ -34,7 +34,7 @@ def _asked(command: str, document: Asked, program: Optional[Path], timeout: Opti
 
 
 def solve(document: Asked, *, program: Optional[Path] = None, timeout: Optional[float] = None) -> Solved:
-    """An equilibrium of the network. Raises as `ask` does."""
+    """An equilibrium of the network, a SolvedByCounts where its trades have units. Raises as `ask` does."""
     return cast(Solved, _asked("solve", document, program, timeout))
 
 

@@ -1,14 +1,15 @@
 // The picture of a network, with or without an answer: a box for each firm, and an arrow from seller to buyer.
+import {hasUnits} from "../read/limits.js";
 import {extent, standing} from "../read/standing.js";
 import {captionOf} from "../say/captions.js";
 import {say} from "../words/say.js";
 import {layout} from "./layout.js";
-import {lanesOf, wordsOf} from "./lanes.js";
+import {laneLine, lanesOf, wordsOf} from "./lanes.js";
 import {changesOf, marksOf} from "./marks.js";
 import {arrow, boxWidth, FAINT, foot, FIRST, INK, label, LARGE, namedBox, picture, sizeOf, tag, widthOf} from "./svg.js";
 import {tableOf} from "./table.js";
 
-const ROOM = {width: 1580, height: 880}, MOST_ARROWS = 120, FEW = 24, MANY_FIRMS = 40;
+const ROOM = {width: 1580, height: 880}, MOST_ARROWS = 120, FEW = 24, MANY_FIRMS = 40, MOST_IN_LEGEND = 6.7;
 
 /**
  * The picture as SVG. `before` is an earlier answer, of which is shown what changed; `firm` is the one whose neighbourhood alone is
@@ -24,11 +25,12 @@ export function networkPicture(network, said, {before = null, firm = null} = {})
     if (lanes.length > MOST_ARROWS) return tableOf(lanes, stands, caption);
     const near = new Set([firm, ...trades.flatMap(({seller, buyer}) => [seller, buyer])]);
     const firms = firm === null ? network.firms : network.firms.filter(({name}) => near.has(name));
-    const boxes = boxesOf(firms, lanes, said, marksOf(network, said).firms);
+    const boxes = boxesOf(firms, hasUnits(network.data), said, marksOf(network, said).firms);
+    const most = Math.max(...lanes.map(({units}) => units ?? 0), 1);
     const ends = new Set(boxes.map(({id}) => id));
     const arrows = lanes.filter(({seller, buyer}) => ends.has(seller) && ends.has(buyer)).map((lane) => {
         const lines = isNamed(lane, lanes, earlier, stands) ? shortened(wordsOf(lane, stands, earlier), lanes) : [];
-        return {from: lane.seller, to: lane.buyer, lane, lines, size: lines.length > 0 ? sizeOf(lines) : null, style: styleOf(lane, stands)};
+        return {from: lane.seller, to: lane.buyer, lane, lines, size: lines.length > 0 ? sizeOf(lines) : null, style: styleOf(lane, stands, most)};
     });
     return drawn(boxes, arrows, layout(boxes, arrows, ROOM), caption);
 }
@@ -51,9 +53,10 @@ function shortened(lines, lanes) {
     return lanes.length <= FEW ? lines : [lines.join(" ")];
 }
 
-function boxesOf(firms, lanes, said, inColour) {
+/** A box for each firm, with its kind where they have several. */
+function boxesOf(firms, areLaminar, said, inColour) {
     const lines = new Map(said.answer === "firms" ? said.firms.map((line) => [line.firm, line]) : []);
-    const isClose = firms.length > MANY_FIRMS && lines.size === 0;
+    const isClose = (firms.length > MANY_FIRMS || areLaminar) && lines.size === 0;
     return firms.map(({name, kind}) => {
         const line = lines.get(name), below = line ? utilityOf(line) : isClose ? null : kind;
         const style = inColour.has(name) ? {fill: "#ffedd5", stroke: FIRST, thick: 2} : {};
@@ -83,15 +86,16 @@ function drawn(boxes, arrows, places, caption) {
 }
 
 function titleOf({lane, lines}) {
+    if (lane.units > 0 && lines.length > 0) return laneLine(lane, lines);
     const [name = "", price] = lines, says = price === undefined ? name : say("picture.at", {name, price});
     return `${say("picture.ends", lane)}: ${lane.trades.length > 1 ? `${lane.trades.join(", ")}: ` : ""}${says}`;
 }
 
-/** How a lane is drawn, and what that says. */
-function styleOf({on, mark, isAdmitted}, stands) {
+/** How a lane is drawn, and what that says; with units it is as wide as its share of the most that go by a lane. */
+function styleOf({on, units, mark, isAdmitted}, stands, most) {
     const common = {ink: mark?.ink ?? INK, mark: mark?.ink ?? null, says: mark?.says ?? null, textInk: INK, dashes: null};
     if (stands.on === null) return {...common, width: 1.5, state: null};
-    if (on > 0) return {...common, width: 2.5 + Math.min(on, 6) * 0.7,
+    if (on > 0) return {...common, width: units === null ? 2.5 + Math.min(on, 6) * 0.7 : 2 + 8 * units / most,
         state: say(stands.isSigned ? "picture.is_signed" : "picture.takes_place")};
     const faint = {...common, ink: mark?.ink ?? FAINT, textInk: "#64748b"};
     if (!isAdmitted) return {...faint, width: 1, dashes: "2 4", state: say("picture.not_admitted")};
@@ -106,5 +110,5 @@ function legendOf(styles) {
         const meaning = [style.says, style.state].filter(Boolean).join(", ");
         if (meaning !== "" && !entries.has(meaning)) entries.set(meaning, style);
     }
-    return [...entries].map(([says, style]) => ({says, sample: (x, y) => arrow([{x, y}, {x: x + 36, y}], style)}));
+    return [...entries].map(([says, style]) => ({says, sample: (x, y) => arrow([{x, y}, {x: x + 36, y}], {...style, width: Math.min(style.width, MOST_IN_LEGEND)})}));
 }

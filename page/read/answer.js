@@ -1,8 +1,9 @@
 // The text of an answer, and whether it can be one to a document.
 import {say} from "../words/say.js";
 import {find, NotJson, parse, plain, written} from "./json.js";
+import {hasUnits} from "./limits.js";
 import {isObject, itemsOf, withMember} from "./network.js";
-import {nameOn, unitsOf} from "./standing.js";
+import {nameOn} from "./standing.js";
 
 /** What no answer is told by: a text that isn't one, or one that is of another document. */
 export class NoAnswer extends Error {}
@@ -51,11 +52,11 @@ export const CLAIMS = ["equilibrium", "better", "impossible", "accepted", "excha
 
 /**
  * Throws NoAnswer where an answer that can be a claim isn't so in the document, as `replay` says: then it is one to another document
- * with the same names. Without a program, or where the claim would make the document too long, nothing is said; nor of an answer that
- * tells units, which can be no claim.
+ * with the same names. Without a program, or where the claim would make the document too long, nothing is said; nor of a document
+ * whose trades have units, which `replay` doesn't answer.
  */
 export async function isSo(network, said, ask) {
-    if (ask === null || !CLAIMS.includes(said.answer) || unitsOf(said).size > 0) return;
+    if (ask === null || !CLAIMS.includes(said.answer) || hasUnits(network.data)) return;
     const verdict = readAnswer(await ask(["replay"], withMember(network, "claim", written(said))));
     if (verdict.answer === "valid" || verdict.fault === 2n) return;
     if (verdict.answer === "invalid") throw new NoAnswer(`This is no answer to the document: put into it as a claim it isn't valid (${verdict.reason}).`);
