@@ -1,11 +1,13 @@
 // What the document says of a firm by itself, in a few words: from what a seller sells, up to what a buyer pays, at what cost something is
 // made. The numbers are those of the document, or sums and differences of them.
+import {hasUnits} from "../read/limits.js";
 import {itemsOf, isObject} from "../read/network.js";
 import {say} from "../words/say.js";
 import {listed} from "./words.js";
 
-/** What is said of a firm: `{short, whole}`, each a text; null where the document says nothing of it that could be told so. */
+/** What is said of a firm: `{short, whole}`, each a text; null where the document says nothing of it that could be told so, or has units. */
 export function ownOf(network, name) {
+    if (hasUnits(network.data)) return null;
     const firm = firmAt(network, name), sides = sidesOf(network, name), tell = firm ? KINDS[firm.kind] : undefined;
     const parts = tell && sides.all.length > 0 ? tell(firm, sides) : [];
     return parts.length === 0 ? null : {short: parts[0], whole: parts.join(", ")};
@@ -13,6 +15,7 @@ export function ownOf(network, name) {
 
 /** What is said of each trade of a firm alone, by its name: from what it is sold, up to what is paid for it, or at which cost it is passed on. */
 export function eachOf(network, name) {
+    if (hasUnits(network.data)) return new Map();
     const firm = firmAt(network, name), sides = sidesOf(network, name), told = new Map();
     for (const [trade, worth] of aloneAt(firm, sides)) {
         told.set(trade, sides.sales.includes(trade) ? say("own.sells", {price: -worth}) : say("own.pays", {price: worth}));

@@ -1,5 +1,6 @@
 // All that the page shows, as one value that named actions change.
 import {NotJson, readable, textOf, written} from "../../read/json.js";
+import {hasUnits} from "../../read/limits.js";
 import {Network} from "../../read/network.js";
 import {exerciseIn, GOALS, isAsGiven} from "../exercise/exercise.js";
 import {applied} from "./edits.js";
@@ -72,7 +73,7 @@ export const ACTIONS = {
     /** The text of the document was edited. */
     typed: (value, text, mark = null) => text === value.document.text ? value : changed(value, withText(value.document, text, isMerged(value, mark)), mark),
     /** Some places of the text were changed, by the picture or a form. */
-    edited: (value, edits, mark = null) => withRoom(value, ACTIONS.typed(value, applied(value.document.text, edits), mark)),
+    edited: (value, edits, mark = null) => isCounted(value) ? value : withRoom(value, ACTIONS.typed(value, applied(value.document.text, edits), mark)),
     undone: (value) => value.past.length === 0 ? value : moved(value, value.past, value.future, (past, future) => ({past, future})),
     redone: (value) => value.future.length === 0 ? value : moved(value, value.future, value.past, (future, past) => ({past, future})),
     /** A lane, a firm or a bound was chosen, or nothing. */
@@ -184,7 +185,7 @@ function moved(value, from, to, named) {
 function documentOf(name, bytes) {
     const isWhole = bytes.length <= MOST_SHOWN, shown = isWhole ? bytes : bytes.subarray(0, BEGINNING);
     const text = new TextDecoder("utf-8", {ignoreBOM: true}).decode(shown), document = {name, bytes, text, isWhole, exercise: null, tries: 0};
-    document.exercise = isWhole ? exerciseIn(networkOf(document)) : null;
+    document.exercise = isWhole && !isCounted({document}) ? exerciseIn(networkOf(document)) : null; // (nobody guesses where trades have units)
     return document;
 }
 
@@ -208,11 +209,25 @@ function resultWith({text, ...result}, given) {
     return {...result, document, isGiven: isAsGiven(networkOf(document), given), verdict: null};
 }
 
+/** Whether trades have units: then the document and the answers to commands are looked at, and nothing else knows it. */
+export function isCounted({document}) {
+    return document.isWhole && hasUnits(networkOf(document).data);
+}
+
+/** The views of a document whose trades have units. */
+const COUNTED = ["document", "answer", "results"];
+
+function withUnits(value) {
+    const {view} = value, panel = COUNTED.includes(view.panel) ? view.panel : "answer", wanted = {panel, mode: "guess", hasRanges: false, hasReason: false};
+    return Object.entries(wanted).every(([name, each]) => view[name] === each) ? value : looked(value, wanted);
+}
+
 /** The views that an easy page hasn't. */
 const HARD = ["claim", "document", "answer"];
 
 /** What there is of an easy page; and what a pupil sees of an exercise: the view in which its goal is looked for, and nothing that would solve it. */
 function within(value) {
+    if (isCounted(value)) return withUnits(value);
     const {document: {exercise}, view} = value;
     if (exercise === null) return view.isEasy && HARD.includes(view.panel) ? looked(value, {panel: view.mode}) : value;
     const {panel} = GOALS[exercise.goal], wanted = {panel: view.panel === "results" ? "results" : panel, mode: panel, hasRanges: false, hasReason: false, isOver: false};

@@ -3,7 +3,7 @@ import {BOTH, COME, FIRST, GONE, SECOND} from "../../draw/svg.js";
 import {fraction} from "../../read/network.js";
 import {standing} from "../../read/standing.js";
 import {say} from "../../words/say.js";
-import {isOld, networkOf} from "../document/state.js";
+import {isCounted, isOld, networkOf} from "../document/state.js";
 import {drawing, keepingFocus, part, write} from "../shell/page.js";
 import {stepOf} from "../told/story.js";
 import {supposedScene} from "../whatif/difference.js";
@@ -78,16 +78,26 @@ function sceneOf(value) {
     if (value.view.mode === "whatif") return supposedScene(value);
     const {document, guess, answer, view} = value, network = networkOf(document), shown = stepOf(value);
     const isOver = view.isOver && answer?.said?.answer === "solved" && !isOld(value, answer);
-    const told = !isOver && guess?.said?.answer === "firms" ? guess.said.firms : [];
+    const told = !isOver && !isCounted(value) && guess?.said?.answer === "firms" ? guess.said.firms : [];
     const lines = view.mode === "sign" ? signedLines(value) : new Map(told.map((line) => [line.firm, line]));
     const isStory = shown !== null && (view.mode === "sign" || !["firm", "bound"].includes(value.selection?.kind));
     const marks = isStory ? rolesOf(shown.step.trades) : marksOf(value, lines);
     for (const [firm, below] of shown?.step.below ?? []) {
         lines.set(firm, {firm, below, mood: moodNow(view, lines.get(firm)), says: below.join(", ")});
     }
-    const stands = view.mode === "sign" ? signedStands(value, shown) : standing(network, isOver ? answer.said : {});
+    const stands = view.mode === "sign" ? signedStands(value, shown) : countedStands(standing(network, isOver ? answer.said : {}));
     const focus = new Set(shown?.step.firms ?? []);
     return {stands, lines, marks, focus, isOver, key: [view.mode, shown?.place, isOver, isOver ? answer.text : null]};
+}
+
+/** What takes place, where units are told with how many go beside each price. */
+function countedStands(stands) {
+    const {units = new Map(), prices} = stands, told = [...prices].map(([name, price]) => [name, unitsAt(units.get(name), price)]);
+    return units.size === 0 ? stands : {...stands, prices: new Map(told)};
+}
+
+function unitsAt(count, price) {
+    return count === undefined ? price : say("picture.units", {count, price});
 }
 
 /** Who is told to have something better objects to what is signed; in a guess the prices say who objects. */

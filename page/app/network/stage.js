@@ -64,9 +64,10 @@ function markOf(found) {
 
 const numbers = new WeakMap();
 
-/** The prices that are numbers; a document that is being typed may have others. */
+/** The prices that are numbers, and those beside which units are told; a document that is being typed may have others. */
 function shownPrices(stands) {
-    if (!numbers.has(stands)) numbers.set(stands, new Map([...stands.prices].filter(([, price]) => /^-?\d+(\/\d+)?$/.test(price))));
+    const isShown = ([name, price]) => stands.units?.has(name) || /^-?\d+(\/\d+)?$/.test(price);
+    if (!numbers.has(stands)) numbers.set(stands, new Map([...stands.prices].filter(isShown)));
     return numbers.get(stands);
 }
 

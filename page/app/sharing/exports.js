@@ -1,6 +1,9 @@
 // What goes out of the page as a file: the document, a picture, an answer, and tables.
+import {hasUnits} from "../../read/limits.js";
+import {entriesOf, isObject, itemsOf} from "../../read/network.js";
 import {firmLabel, tradeLabel} from "../../words/labels.js";
 import {say} from "../../words/say.js";
+import {networkOf} from "../document/state.js";
 import {cellsOf, HEADS, linesOf} from "../network/firms.js";
 import {offer, part} from "../shell/page.js";
 import {inPixels, standing} from "./picture.js";
@@ -50,4 +53,18 @@ export function firmsTable({guess}) {
 export function rangesTable({ranges: {said}}) {
     const lines = said.ranges.map(({trade, low, high}) => [tradeLabel(trade), said.on.includes(trade) ? 1 : 0, low ?? "", high ?? ""]);
     return [["head.trade", "head.on", "head.low", "head.high"].map((head) => say(head)), ...lines];
+}
+
+/** Whether an answer is one of `solve` to a document whose trades have units. */
+export function isCountedAnswer(asked, said) {
+    return said?.answer === "solved" && hasUnits(networkOf(asked).data);
+}
+
+/** How many units of each trade go, of how many, and at which price. */
+export function countsTable(asked, said) {
+    const network = networkOf(asked), counts = entriesOf(said.on), prices = entriesOf(said.prices);
+    const units = new Map(itemsOf(network.data.trades).filter(isObject).map(({name, units: all}) => [name, all ?? 1n]));
+    const lines = network.trades.map(({name, seller, buyer}) => [tradeLabel(name), firmLabel(seller), firmLabel(buyer), counts.get(name) ?? 0n, units.get(name),
+        prices.get(name)]);
+    return [["head.trade", "head.from", "head.to", "head.units", "head.all_units", "head.price"].map((head) => say(head)), ...lines];
 }

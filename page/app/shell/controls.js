@@ -16,7 +16,7 @@ import {objectors} from "../network/firms.js";
 import {zoomIn, zoomOut} from "../network/scene.js";
 import {COMMANDS} from "../program/commands.js";
 import {bindCards} from "../sharing/cards.js";
-import {firmsTable, rangesTable, saveAnswer, saveDocument, savePicture, savePixels, stem} from "../sharing/exports.js";
+import {countsTable, firmsTable, rangesTable, saveAnswer, saveDocument, savePicture, savePixels, stem} from "../sharing/exports.js";
 import {bindLinks} from "../sharing/links.js";
 import {copyTable, saveTable} from "../sharing/tables.js";
 import {bindReasons, claim} from "../told/reasons.js";
@@ -258,6 +258,7 @@ function bindCommand(store, {ask, end}) {
     });
     store.watch(({run}, name) => run.state === "none" && CHANGES.includes(name) && end());
     on("answer-save", () => saveAnswer(store.value));
+    bindTable("counts", () => countsTable(store.value.answer.document, store.value.answer.said), () => store.value.answer.document.name);
     on("answer-claim", () => claim(store, store.value.answer));
 }
 

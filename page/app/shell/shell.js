@@ -4,7 +4,7 @@ import {say} from "../../words/say.js";
 import {outcomeOf} from "../document/contracts.js";
 import {hasArrangement} from "../document/edits.js";
 import {isOneLine} from "../document/lines.js";
-import {faulty, isOld, networkOf} from "../document/state.js";
+import {faulty, isCounted, isOld, networkOf} from "../document/state.js";
 import {isTable} from "../network/plan.js";
 import {showSteps} from "./help.js";
 import {part, write} from "./page.js";
@@ -22,6 +22,7 @@ let shownPanel = null, shownText = "";
 /** Shows all that. */
 export function showShell(value) {
     const {past, future, view} = value, page = document.documentElement;
+    page.dataset.units = `${isCounted(value)}`;
     page.dataset.guess = saidState(value, value.guess);
     page.dataset.judged = view.mode === "sign" ? saidState(value, value.judged) : "none";
     page.dataset.decided = view.panel === "claim" ? saidState(value, value.decided) : "none";
@@ -55,7 +56,7 @@ function showNote({document}) {
 
 /** How far the program is with what it is asked without being asked for. */
 function saidState(value, said) {
-    if (!value.document.isWhole) return "none";
+    if (!value.document.isWhole || isCounted(value)) return "none";
     if (said === null || isOld(value, said)) return "asking";
     if (said.trouble) return "trouble";
     return said.isNone ? "none" : said.said.answer === "fault" ? "fault" : "answered";
@@ -121,6 +122,7 @@ function showText(value) {
 function showOver(value) {
     const {answer, view} = value, isOver = view.isOver && answer?.said?.answer === "solved" && !isOld(value, answer);
     part("over").hidden = !isOver;
+    for (const id of ["over-take", "over-claim"]) part(id).hidden = isCounted(value);
     part("verdict-row").hidden = isOver;
     part("said").hidden = isOver;
     if (isOver) write("over-says", say("verdict.solved", {surplus: answer.said.surplus}));

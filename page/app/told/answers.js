@@ -1,10 +1,11 @@
 // What is answered to a command, shown under Answers, and the document's name.
 import {lineAndColumn} from "../../read/json.js";
+import {hasUnits} from "../../read/limits.js";
 import {say} from "../../words/say.js";
 import {canBeClaimed} from "../document/claims.js";
-import {isOld} from "../document/state.js";
+import {isOld, networkOf} from "../document/state.js";
 import {verdictOf} from "../program/commands.js";
-import {lineOf} from "../sharing/exports.js";
+import {countsTable, isCountedAnswer, lineOf} from "../sharing/exports.js";
 import {drawing, made, part, write} from "../shell/page.js";
 
 let last = null, named = null;
@@ -21,7 +22,7 @@ export function showAnswers(value) {
     const old = answer !== null && (isOld(value, answer) || run.state === "asking");
     part("shown").classList.toggle("old", old);
     part("shown").dataset.old = `${old}`;
-    part("answer-claim").hidden = !canBeClaimed(answer?.said);
+    part("answer-claim").hidden = !canBeClaimed(answer?.said) || hasUnits(networkOf(answer.document).data);
     part("answer-claim").setAttribute("aria-disabled", `${old}`);
     write("status", statusOf(run, words, answer) || (old ? say("status.earlier") : ""));
     if (answer !== null && answer !== last) showAnswer(answer);
@@ -43,14 +44,35 @@ function statusOf({state, message}, words, answer) {
     return say("status.line", {verdict: verdictOf(status, words), status, ms: ms.toFixed(ms < 10 ? 1 : 0)});
 }
 
-function showAnswer({document: asked, words, text, bytes, sentences, mark, pictures}) {
+function showAnswer({document: asked, words, said: answered, text, bytes, sentences, mark, pictures}) {
     part("line").textContent = lineOf({words, document: asked});
     part("sentences").replaceChildren(...said(sentences.map((sentence) => made("p", sentence))));
     part("fault").replaceChildren(...(mark === null ? [] : [excerpt(mark)]));
+    showCounts(asked, answered);
     part("pictures").replaceChildren(...pictures.map(pictureOf));
     part("bytes").textContent = text;
     part("raw").open = sentences.length === 0;
     part("raw").firstElementChild.textContent = say("page.wrote_bytes", {count: bytes.length});
+}
+
+/** The table of how many units of each trade go, where an answer tells units. */
+function showCounts(asked, answered) {
+    const isThere = isCountedAnswer(asked, answered);
+    part("counts-part").hidden = !isThere;
+    if (!isThere) return;
+    const [heads, ...lines] = countsTable(asked, answered), {tHead, tBodies: [body]} = part("counts");
+    tHead.replaceChildren(rowOf(heads.map((head) => made("th", head, {scope: "col"}))));
+    body.replaceChildren(...lines.map(([name, ...cells]) => rowOf([made("th", name, {scope: "row"}), ...cells.map(cellOf)])));
+}
+
+function cellOf(value) {
+    return made("td", String(value), typeof value === "string" ? {} : {class: "number"});
+}
+
+function rowOf(cells) {
+    const row = made("tr");
+    row.append(...cells);
+    return row;
 }
 
 const MOST_SENTENCES = 12;
