@@ -68,7 +68,7 @@ export const PAGE = {
     },
     group: {
         cars: "Gebrauchtwagen", lesson: "Die Schulstunde", gallery: "Galerie", small: "Kleine Netze",
-        kinds: "Firmen aller Arten", claims: "Behauptungen und Fehler",
+        kinds: "Firmen aller Arten", claims: "Behauptungen und Fehler", units: "Geschäfte mit vielen Einheiten",
     },
     head: {
         low: "Kleinster", high: "Größter",

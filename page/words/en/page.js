@@ -57,7 +57,7 @@ export const PAGE = {
     },
     group: {
         cars: "Used cars", lesson: "The lesson", gallery: "Gallery", small: "Small networks",
-        kinds: "Firms of all kinds", claims: "Claims and faults",
+        kinds: "Firms of all kinds", claims: "Claims and faults", units: "Trades of many units",
     },
     head: {
         low: "Lowest", high: "Highest",
