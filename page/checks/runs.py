@@ -53,7 +53,7 @@ def of_examples() -> list[Run]:
 def drawn(count: int) -> list[Run]:
     """Documents that tools/fuzz draws, each with one command after another."""
     documents, counted = (importlib.import_module(f"fuzz_lib.{name}") for name in ("documents", "unit_documents"))
-    examples, with_units = documents.small_examples(ROOT / "examples")
+    examples, with_units = documents.example_texts(ROOT / "examples")
     runs = []
     for k in range(count):
         draw = random.Random(f"page-{k}")

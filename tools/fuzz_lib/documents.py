@@ -238,8 +238,13 @@ def spoil(draw, text):
 
 
 def small_examples(folder):
-    """The texts of the examples that are small enough to be asked thousands of times: those of versions 1 to 3, and those with units."""
-    texts = [path.read_text() for path in sorted(folder.glob("*.json")) if path.stat().st_size <= 20_000]
+    """The files of the examples that are small enough to be asked thousands of times."""
+    return [path for path in sorted(folder.glob("*.json")) if path.stat().st_size <= 20_000]
+
+
+def example_texts(folder):
+    """The texts of these: of versions 1 to 3, and of those whose trades have units."""
+    texts = [path.read_text() for path in small_examples(folder)]
     counted = [text for text in texts if json.loads(text)["version"] == UNIT_VERSION]
     return [text for text in texts if text not in counted], counted
 

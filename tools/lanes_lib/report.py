@@ -74,7 +74,8 @@ def sizes_in(document: dict) -> Sizes:
 def built_again(network: Network, document: dict) -> Built:
     """What the codes of a document stand for, which has to be that of the tables."""
     if document.get("version") == OF_UNITS.number:
-        raise Trouble(f"the document has version {OF_UNITS.number}: its trades have units, and the report is of documents with a trade for each lot")
+        raise Trouble(f"the document has version {OF_UNITS.number}: its trades have units, and the report is of documents with "
+                      "a trade for each lot")
     built = build(network, sizes_in(document))
     if any(built.document[part] != document.get(part) for part in ("firms", "trades")):
         raise Trouble("the document is not that of these tables: make it again")
