@@ -11,3 +11,4 @@ pub mod RangeLemmas
 pub mod WalkLemmas
 pub mod StepLemmas
 pub mod SupportLemmas
+pub mod HeldLemmas

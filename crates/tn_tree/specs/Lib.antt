@@ -2,6 +2,7 @@
 pub mod Lists
 pub mod Nets
 pub mod Levels
+pub mod Held
 pub mod Shapes
 pub mod Steps
 pub mod Supports

@@ -1,7 +1,8 @@
 -- Lists of counts and of prices, by trade number.
-use Rattle.std.specs.Prelude.{ℕ, ℤ, pos, List, get_or, ◌==◌, if◌then◌else◌}
+use Rattle.std.specs.Prelude.{ℕ, ℤ, pos, ◌-ℤ◌, List, get_or, ◌==◌, if◌then◌else◌}
 use Rattle.tn_counts.specs.Counts.{trade_at}
 use Rattle.tn_counts.specs.declared.market.Pin.{Pin}
+use Rattle.tn_counts.specs.declared.trade.UnitAmounts.{UnitAmounts}
 use Rattle.tn_counts.specs.declared.trade.UnitTrade.{UnitTrade}
 
 abbrev pub count_in : List ℕ → ℕ → ℕ
@@ -17,3 +18,7 @@ own_counts trades sold bought f t = if f == (trade_at trades t).seller then coun
 -- the pin of a trade at its price
 abbrev pub pin_of : List ℤ → ℕ → Pin
 pin_of prices t = record { trade = t; price = price_in prices t }
+
+-- a price as amounts: a unit adds it to what the seller has, and takes it from the buyer
+abbrev pub rate_of : List ℤ → ℕ → UnitAmounts
+rate_of prices t = record { seller = price_in prices t; buyer = pos 0 -ℤ price_in prices t }

@@ -54,7 +54,9 @@ pub fn best_counts(
     requires market { IsUnitMarket market.now }
     requires as_many { length prices.now ≡ length market.now.trades.items }
     requires small { (t : ℕ) → t < length prices.now → IsAtMost (price_in prices.now t) most_each }
-    ensures { IfOk result (λ best. (f : ℕ) → f < market.now.firms → (value : ℤ)
+    ensures sold { IfOk result (λ best. length best.sold.items ≡ length market.now.trades.items) }
+    ensures bought { IfOk result (λ best. length best.bought.items ≡ length market.now.trades.items) }
+    ensures best { IfOk result (λ best. (f : ℕ) → f < market.now.firms → (value : ℤ)
         × IsBestCount market.now.trades.items (count_utility market.now.trades.items (pos 1) (price_in prices.now) f
         (firm_of market.now f)) (own_counts market.now.trades.items best.sold.items best.bought.items f) value) }
 {

@@ -5,6 +5,7 @@ mod around;
 mod best;
 mod build;
 mod flow;
+mod held;
 mod nets;
 mod range;
 mod settled;
@@ -15,6 +16,7 @@ mod worths;
 
 pub use best::{BestCounts, best_counts};
 pub use range::{UnitRange, UnitRanges, range_market};
+pub use held::{FirmCount, HeldCounts, hold_counts};
 pub use solve::{Solved, solve_market};
 pub use steps::UnitStep;
 pub use support::UnitSupport;

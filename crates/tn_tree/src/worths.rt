@@ -113,7 +113,7 @@ fn number_at(set: &CountSet, net: i128) -> Option<i128>
 }
 
 /// The sum of two numbers.
-fn sum(first: i128, second: i128) -> i128
+pub(crate) fn sum(first: i128, second: i128) -> i128
     requires first { IsAtMost first most_sum }
     requires second { IsAtMost second most_sum }
     ensures { result ≡ first +ℤ second }

@@ -3,7 +3,7 @@ use Rattle.std.proofs.Common.{ℕ, ◌+◌, List, length, map, get_or, refl, sym
 use Rattle.std.specs.List.{range_with_len}
 use Rattle.tn_counts.specs.Markets.{ArePins}
 use Rattle.tn_counts.specs.Tree.{AreLinksOf}
-use Rattle.tn_tree.proofs.SolveLemmas.{best_read, pins_are}
+use Rattle.tn_tree.proofs.SolveLemmas.{best_read, pins_are, sized_by}
 use Rattle.tn_tree.proofs.best.best_counts.Goals as goal
 
 pub links_of-requires-clause-pins : goal.links_of-requires-clause-pins
@@ -12,8 +12,23 @@ links_of-requires-clause-pins c =
     (pins_are (length c.args.market.now.trades.items) c.args.prices.now c.in_ok-pins.pins.items c.in_ok-pins.ensures
     c.requires.as_many c.requires.small)
 
-pub returns : goal.returns
-returns c =
+pub returns-clause-sold : goal.returns-clause-sold
+returns-clause-sold c =
+    let sized = c.args.market.now.trades.ok.0 in
+    let count = c.len-trades.ensures in
+    sized_by (λ t. get_or c.deref-2.result.now (c.trade_node-place.result + t) 0) c.in_ok-sold.sold.items
+    c.len-trades.result (length c.args.market.now.trades.items) c.in_ok-sold.ensures (omega (arith, sized, count))
+
+pub returns-clause-bought : goal.returns-clause-bought
+returns-clause-bought c =
+    let sized = c.args.market.now.trades.ok.0 in
+    let count = c.len-trades.ensures in
+    sized_by (λ t. get_or c.deref-3.result.now (c.trade_node-place.result + c.len-trades.result + t) 0)
+    c.in_ok-bought.bought.items c.len-trades.result (length c.args.market.now.trades.items) c.in_ok-bought.ensures
+    (omega (arith, sized, count))
+
+pub returns-clause-best : goal.returns-clause-best
+returns-clause-best c =
     let sized = c.args.market.now.trades.ok.0 in
     let count = c.len-trades.ensures in
     best_read c.args.market.now c.args.prices.now c.in_ok-pins.pins.items c.in_ok-links.links.links.items
