@@ -12,3 +12,4 @@ pub mod WalkLemmas
 pub mod StepLemmas
 pub mod SupportLemmas
 pub mod HeldLemmas
+pub mod SurplusOfLemmas

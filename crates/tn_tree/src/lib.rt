@@ -12,6 +12,7 @@ mod settled;
 mod solve;
 mod steps;
 mod support;
+mod surplus;
 mod worths;
 
 pub use best::{BestCounts, best_counts};
@@ -20,3 +21,4 @@ pub use held::{FirmCount, HeldCounts, hold_counts};
 pub use solve::{Solved, solve_market};
 pub use steps::UnitStep;
 pub use support::UnitSupport;
+pub use surplus::surplus_of;

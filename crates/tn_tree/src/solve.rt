@@ -73,7 +73,7 @@ pub(crate) fn prices_by(
 }
 
 /// The constants of all sets.
-fn constants(sets: &[CountSet]) -> i128
+pub(crate) fn constants(sets: &[CountSet]) -> i128
     requires few { length sets.now ≤ most_count_sets }
     requires small { (i : ℕ) (set : CountSet) → slice_get sets.now i ≡ Some set → IsAtMost set.constant most_unit_amount }
     ensures sum { result ≡ constants sets.now }
