@@ -1,11 +1,11 @@
 -- Levels by counts that are possible for each firm are a kept flow.
-use Rattle.std.proofs.Common.{◌≡◌, ◌≢◌, ℕ, zero, suc, ◌+◌, ◌-◌, ◌*◌, ◌<◌, ◌≤◌, Bool, true, false, ◌==◌, if◌then◌else◌, List, [], ◌∷◌, ◌++◌, length, map, get_or, Option, Some, None, option_map, slice_get, refl, sym, ap, ap₂, ◌∙◌, subst, arith, inl, inr, ℤ, pos, ◌+ℤ◌, ◌-ℤ◌, ◌≤ℤ◌, ◌*ℤ◌}
+use Rattle.std.proofs.Common.{◌≡◌, ℕ, ◌+◌, ◌*◌, ◌<◌, ◌≤◌, Bool, true, false, ◌==◌, if◌then◌else◌, List, [], ◌∷◌, ◌++◌, length, map, get_or, Option, Some, slice_get, refl, sym, ap, ap₂, ◌∙◌, arith, ℤ, pos, ◌+ℤ◌, ◌-ℤ◌, ◌≤ℤ◌, ◌*ℤ◌}
 use Rattle.std.specs.Prelude.{unsigned_abs}
 use Rattle.std.specs.List.{range_with_len}
 use Rattle.std.proofs.lemmas.Int.{ints}
 use Rattle.std.proofs.lemmas.List.{append-nil, get_or-append-add, get_or_append_left, length-append}
 use Rattle.std.proofs.lemmas.List.FromFn.{get_or-map-range_with_len, length-map-range_with_len}
-use Rattle.std.proofs.lemmas.Option.{get_or_from_slice_get, none-some, same_Some, slice_get_within}
+use Rattle.std.proofs.lemmas.Option.{get_or_from_slice_get, none-some, slice_get_within}
 use Rattle.std.proofs.Math.IntN.{negsuc, *ℤ_comm}
 use Rattle.tn_base.specs.Arcs.{IsAtMost}
 use Rattle.tn_base.proofs.WalkLemmas.{both_parts}
@@ -16,19 +16,19 @@ use Rattle.tn_links.specs.Totals.{total}
 use Rattle.tn_links.proofs.LawLemmas.{tension}
 use Rattle.tn_links.proofs.TotalLemmas.{minus-times, times-minus, total-minus, total-plus, total-same, total-swap, total-times, total-zero, total_at}
 use Rattle.tn_counts.specs.Counts.{AreCounts, trade_at}
-use Rattle.tn_counts.specs.Laminar.{added_at, amount_sum, firm_of, net_count, set_number, set_sum}
+use Rattle.tn_counts.specs.Laminar.{amount_sum, net_count, set_sum}
 use Rattle.tn_counts.specs.Markets.{IsUnitMarket}
-use Rattle.tn_counts.specs.Tree.{AreLinksOf, LinkShape, bought_at, buyer_place, inner_node, null_node, pin_place, root_node, seller_place, shape_of, sold_at, trade_node}
+use Rattle.tn_counts.specs.Tree.{AreLinksOf, bought_at, buyer_place, inner_node, null_node, pin_place, root_node, seller_place, sold_at, trade_node}
 use Rattle.tn_counts.specs.Widths.{most_market_units, unbounded}
 use Rattle.tn_counts.specs.declared.market.Pin.{Pin}
 use Rattle.tn_counts.specs.declared.market.UnitMarket.{UnitMarket}
 use Rattle.tn_counts.specs.declared.set.CountSet.{CountSet}
-use Rattle.tn_counts.proofs.ClimbLemmas.{climb, climbed, moved, moved_in, sets_climb}
+use Rattle.tn_counts.proofs.ClimbLemmas.{climb, climbed, moved, sets_climb}
 use Rattle.tn_counts.proofs.FlowLemmas.{at_node, flow_in, set_pull}
-use Rattle.tn_counts.proofs.NetLemmas.{between_at, end_parts, end_term}
-use Rattle.tn_counts.proofs.PlaceLemmas.{buyer_term, item_at, links_sum, pin_term, pull, root_term, seller_term, set_in, set_term, tension_placed}
+use Rattle.tn_counts.proofs.NetLemmas.{between_at, end_parts}
+use Rattle.tn_counts.proofs.PlaceLemmas.{buyer_term, item_at, links_sum, pin_term, pull, root_term, seller_term, set_term, tension_placed}
 use Rattle.tn_counts.proofs.PlainLemmas.{AreAll, by_place}
-use Rattle.tn_counts.proofs.WorthLemmas.{AreThere, level_of, set_sum_parts}
+use Rattle.tn_counts.proofs.WorthLemmas.{level_of, set_sum_parts}
 use Rattle.tn_tree.specs.Levels.{ArePossible, back_in, levels_by, root_level, set_level}
 use Rattle.tn_tree.specs.Lists.{count_in, own_counts}
 use Rattle.tn_tree.specs.Nets.{firm_net, net_at}

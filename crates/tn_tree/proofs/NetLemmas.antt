@@ -1,6 +1,6 @@
 -- What flows into the nodes of a market by counts is the net count of each set, and what its firm buys less what it sells
 -- at a root.
-use Rattle.std.proofs.Common.{◌≡◌, ◌≢◌, ℕ, zero, suc, ◌+◌, ◌-◌, ◌*◌, ◌^◌, ◌<◌, ◌≤◌, Bool, true, false, ◌==◌, if◌then◌else◌, List, [], ◌∷◌, length, get_or, Option, Some, None, slice_get, refl, sym, ap, ap₂, ◌∙◌, arith, inl, inr, ℤ, pos, ◌+ℤ◌, ◌-ℤ◌, ◌≤ℤ◌, ◌*ℤ◌}
+use Rattle.std.proofs.Common.{◌≡◌, ℕ, zero, suc, ◌+◌, ◌-◌, ◌*◌, ◌^◌, ◌<◌, ◌≤◌, Bool, true, false, ◌==◌, if◌then◌else◌, List, length, get_or, Option, Some, None, slice_get, refl, sym, ap, ap₂, ◌∙◌, arith, inl, inr, ℤ, pos, ◌+ℤ◌, ◌-ℤ◌, ◌≤ℤ◌, ◌*ℤ◌}
 use Rattle.std.specs.Prelude.{set}
 use Rattle.std.proofs.lemmas.Int.{ints}
 use Rattle.std.proofs.lemmas.Bool.{cases_eq, eq-eqb, ne_eqb}
@@ -8,7 +8,7 @@ use Rattle.std.proofs.lemmas.List.{get_or-set_other, get_or-set_same, length-set
 use Rattle.std.proofs.Math.IntN.{*ℤ-zero, *ℤ-one, *ℤ_comm}
 use Rattle.tn_base.specs.Arcs.{IsAtMost}
 use Rattle.tn_links.specs.Totals.{total}
-use Rattle.tn_links.proofs.TotalLemmas.{minus-times, times-minus, total-minus, total-most, total-same, total-zero, total_one}
+use Rattle.tn_links.proofs.TotalLemmas.{times-minus, total-minus, total-most, total-same, total-zero, total_one}
 use Rattle.tn_counts.specs.Counts.{AreCounts, trade_at}
 use Rattle.tn_counts.specs.Laminar.{holds}
 use Rattle.tn_counts.specs.Markets.{IsUnitMarket}
@@ -16,9 +16,8 @@ use Rattle.tn_counts.specs.Tree.{inner_node, root_node}
 use Rattle.tn_counts.specs.Widths.{most_market_units}
 use Rattle.tn_counts.specs.declared.market.UnitMarket.{UnitMarket}
 use Rattle.tn_counts.specs.declared.set.CountSet.{CountSet}
-use Rattle.tn_counts.specs.declared.trade.UnitTrade.{UnitTrade}
 use Rattle.tn_counts.proofs.ClimbLemmas.{above, climb, climbed, moved, moved_in, sets_climb}
-use Rattle.tn_counts.proofs.FlowLemmas.{above_later, at_node, at_other, at_same, none_times}
+use Rattle.tn_counts.proofs.FlowLemmas.{above_later, at_node, at_other, at_same}
 use Rattle.tn_counts.proofs.SmallLemmas.{units_below, units_total}
 use Rattle.tn_tree.specs.Lists.{count_in}
 use Rattle.tn_tree.specs.Nets.{end_at, firm_net, most_sum, net_at}

@@ -1,6 +1,6 @@
 -- The surplus of counts that are possible for all firms is what their flow gains and all constants, and there is none where
 -- they are impossible for one.
-use Rattle.std.proofs.Common.{◌≡◌, ℕ, zero, suc, ◌+◌, ◌*◌, ◌<◌, List, [], ◌∷◌, length, map, get_or, Option, Some, None, refl, sym, ap, ◌∙◌, arith, ℤ, pos, ◌+ℤ◌}
+use Rattle.std.proofs.Common.{◌≡◌, ℕ, zero, suc, ◌+◌, ◌<◌, List, [], length, map, get_or, Option, Some, None, refl, sym, ap, ◌∙◌, arith, ℤ, ◌+ℤ◌}
 use Rattle.std.specs.List.{range_with_len}
 use Rattle.tn_base.specs.Options.{both}
 use Rattle.tn_links.specs.declared.link.Link.{Link}

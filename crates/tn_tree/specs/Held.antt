@@ -1,5 +1,5 @@
 -- What is said of each firm's counts at given prices, and of the best that it could have.
-use Rattle.std.specs.Prelude.{◌≡◌, ℕ, ◌+◌, ◌<◌, ℤ, pos, ◌+ℤ◌, ◌-ℤ◌, ◌*ℤ◌, List, length, get_or, slice_get, Option, Some, None, option_map, unwrap_or}
+use Rattle.std.specs.Prelude.{◌≡◌, ℕ, ◌+◌, ◌<◌, ℤ, pos, ◌+ℤ◌, ◌-ℤ◌, ◌*ℤ◌, List, length, get_or, Option, Some, None, option_map, unwrap_or}
 use Rattle.tn_base.specs.Arcs.{IsAtMost}
 use Rattle.tn_counts.specs.Counts.{CountFirm, IsBestCount, count_utility, trade_at}
 use Rattle.tn_counts.specs.Laminar.{amount_sum, firm_of}

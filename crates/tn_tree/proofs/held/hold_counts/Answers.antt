@@ -1,5 +1,5 @@
 -- What shows the clauses of `hold_counts` of `src/held.rt`.
-use Rattle.std.proofs.Common.{◌≡◌, ℕ, ◌<◌, ◌∙◌, List, length, refl, sym, ap, subst, arith, ℤ, get_or, Option, None}
+use Rattle.std.proofs.Common.{ℕ, ◌<◌, ◌∙◌, List, length, sym, ap, subst, arith, ℤ, get_or, Option, None}
 use Rattle.std.proofs.lemmas.Option.{slice_get_within}
 use Rattle.tn_counts.specs.Counts.{AreCounts}
 use Rattle.tn_counts.specs.Laminar.{firm_of}

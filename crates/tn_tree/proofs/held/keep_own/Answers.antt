@@ -1,5 +1,5 @@
 -- What shows the clauses of `keep_own` of `src/held.rt`.
-use Rattle.std.proofs.Common.{◌≡◌, ℕ, ◌<◌, ◌∙◌, List, length, map, refl, sym, ap, ap₂, subst, arith, get_or}
+use Rattle.std.proofs.Common.{◌≡◌, ℕ, ◌∙◌, List, length, map, refl, ap, subst, arith, get_or}
 use Rattle.std.proofs.lemmas.List.{length-map}
 use Rattle.tn_counts.specs.Counts.{trade_at}
 use Rattle.tn_counts.specs.declared.trade.UnitTrade.{UnitTrade}

@@ -1,5 +1,5 @@
 -- What shows the clauses of `value_of` of `src/held.rt`.
-use Rattle.std.proofs.Common.{◌≡◌, ◌∙◌, sym, ap, arith, ℤ, pos, ◌+ℤ◌, ◌*ℤ◌, Some, option_map}
+use Rattle.std.proofs.Common.{◌≡◌, ◌∙◌, sym, ap, arith, pos, ◌+ℤ◌, ◌*ℤ◌, Some, option_map}
 use Rattle.std.proofs.lemmas.Int.{ints, to_z-of_z}
 use Rattle.std.proofs.Math.IntN.{*ℤ_comm}
 use mir.Syntax.{w128}

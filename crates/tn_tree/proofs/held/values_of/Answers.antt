@@ -1,12 +1,8 @@
 -- What shows the clauses of `values_of` of `src/held.rt`.
-use Rattle.std.proofs.Common.{◌≡◌, ℕ, ◌<◌, ◌∙◌, List, length, map, refl, sym, ap, ap₂, subst, arith, ℤ, pos, ◌+ℤ◌, ◌*ℤ◌, get_or, Option, Some, None, option_map}
-use Rattle.std.proofs.lemmas.Int.{ints}
+use Rattle.std.proofs.Common.{◌∙◌, List, length, sym, ap, ap₂, arith, ℤ, pos, ◌+ℤ◌, ◌*ℤ◌, get_or, Option, None, option_map}
 use Rattle.std.proofs.lemmas.Option.{slice_get-get_or}
-use Rattle.tn_base.specs.Arcs.{IsAtMost}
 use Rattle.tn_links.specs.Widths.{most_each}
-use Rattle.tn_counts.specs.Laminar.{amounts_at, firm_of}
-use Rattle.tn_tree.specs.Lists.{own_counts}
-use Rattle.tn_tree.specs.Nets.{most_paid}
+use Rattle.tn_counts.specs.Laminar.{amounts_at}
 use Rattle.tn_tree.proofs.FirmLemmas.{amounts_small}
 use Rattle.tn_tree.proofs.HeldLemmas.{paid_small, utilities_small}
 use Rattle.tn_tree.proofs.SolveLemmas.{read_at, sized_by}

@@ -1,8 +1,7 @@
 -- What shows the clauses of `ends_in` of `src/nets.rt`.
-use Rattle.std.proofs.Common.{◌≡◌, ◌+◌, ◌≤◌, ◌∙◌, List, length, get_or, refl, sym, ap, arith, ℤ, pos, ◌+ℤ◌, ◌-ℤ◌}
-use Rattle.std.proofs.lemmas.Int.{ints}
+use Rattle.std.proofs.Common.{◌∙◌, length, get_or, refl, ap, arith, pos, ◌+ℤ◌, ◌-ℤ◌}
 use Rattle.std.proofs.lemmas.List.{length-set}
-use Rattle.tn_tree.proofs.NetLemmas.{added, ends_more, ends_sum, few_units, none_yet, one_more}
+use Rattle.tn_tree.proofs.NetLemmas.{ends_more, ends_sum, few_units, none_yet, one_more}
 use Rattle.tn_tree.proofs.nets.ends_in.Goals as goal
 
 pub loop-t-init : goal.loop-t-init

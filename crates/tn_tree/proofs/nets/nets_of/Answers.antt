@@ -1,5 +1,5 @@
 -- What shows the clauses of `nets_of` of `src/nets.rt`.
-use Rattle.std.proofs.Common.{◌≡◌, ℕ, ◌+◌, ◌∙◌, length, get_or, refl, ap, arith, pos, ◌+ℤ◌}
+use Rattle.std.proofs.Common.{ℕ, ◌∙◌, length, get_or, refl, ap, arith, pos, ◌+ℤ◌}
 use Rattle.std.proofs.lemmas.Int.{ints}
 use Rattle.std.proofs.lemmas.List.{length-set}
 use Rattle.tn_counts.specs.Tree.{root_node}

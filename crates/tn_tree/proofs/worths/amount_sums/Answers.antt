@@ -1,14 +1,11 @@
 -- What shows the clauses of `amount_sums` of `src/worths.rt`.
-use Rattle.std.proofs.Common.{◌≡◌, ℕ, ◌<◌, ◌∙◌, List, length, refl, sym, ap, ap₂, subst, arith, ℤ, pos, ◌+ℤ◌, ◌*ℤ◌, get_or, if◌then◌else◌, ◌==◌}
-use Rattle.std.specs.Prelude.{set}
+use Rattle.std.proofs.Common.{◌≡◌, ℕ, ◌<◌, ◌∙◌, List, length, ap, ap₂, arith, pos, ◌+ℤ◌, ◌*ℤ◌, get_or, if◌then◌else◌, ◌==◌}
 use Rattle.std.proofs.lemmas.Int.{ints, to_z-of_z}
 use Rattle.std.proofs.lemmas.List.{get_or_default, length-set}
 use Rattle.std.proofs.lemmas.Option.{slice_get-get_or}
 use mir.Syntax.{w64}
 use mir.Val.{SFits}
-use Rattle.tn_base.specs.Arcs.{IsAtMost}
 use Rattle.tn_links.specs.Totals.{total}
-use Rattle.tn_links.specs.Widths.{most_each}
 use Rattle.tn_counts.specs.Counts.{trade_at}
 use Rattle.tn_counts.specs.Laminar.{amounts_at}
 use Rattle.tn_counts.specs.declared.trade.UnitTrade.{UnitTrade}

@@ -1,5 +1,5 @@
 -- What shows the clauses of `level_from` of `src/worths.rt`.
-use Rattle.std.proofs.Common.{◌≡◌, arith, ℤ, pos, ◌+ℤ◌}
+use Rattle.std.proofs.Common.{arith, pos, ◌+ℤ◌}
 use Rattle.std.specs.Prelude.{◌<ℤ◌}
 use Rattle.std.proofs.lemmas.Int.{ints, to_z-of_z}
 use mir.Syntax.{w128}

@@ -7,7 +7,6 @@ use mir.Val.{SFits}
 use Rattle.tn_base.specs.Arcs.{IsAtMost}
 use Rattle.tn_links.specs.declared.link.Step.{Step}
 use Rattle.tn_links.specs.Links.{AreSlight, rise, room}
-use Rattle.tn_counts.specs.Laminar.{added_at}
 use Rattle.tn_tree.specs.Nets.{most_set_number}
 use Rattle.tn_counts.proofs.WorthLemmas.{added_there}
 use Rattle.tn_tree.proofs.FirmLemmas.{number_small, slight_steps}

@@ -1,5 +1,5 @@
 -- What shows the clauses of `worths_by` of `src/worths.rt`.
-use Rattle.std.proofs.Common.{◌≡◌, ℕ, ◌<◌, ◌∙◌, List, length, map, refl, sym, ap, subst, arith, ℤ, pos, get_or, Option, Some, None}
+use Rattle.std.proofs.Common.{◌≡◌, ℕ, ◌<◌, ◌∙◌, List, length, refl, sym, ap, subst, arith, ℤ, pos, get_or, Option, Some, None}
 use Rattle.std.specs.Prelude.{slice_get}
 use Rattle.std.proofs.lemmas.Int.{ints, to_z-of_z}
 use Rattle.std.proofs.lemmas.List.{get_or_default, length-map, length-set}
@@ -11,11 +11,10 @@ use Rattle.tn_base.specs.Options.{both}
 use Rattle.tn_links.specs.Widths.{most_each}
 use Rattle.tn_counts.specs.Laminar.{amount_sum, set_sum}
 use Rattle.tn_counts.specs.Widths.{most_market_units, most_unit_amount}
-use Rattle.tn_counts.specs.declared.set.CountSet.{CountSet}
 use Rattle.tn_counts.specs.declared.trade.UnitAmounts.{UnitAmounts}
 use Rattle.tn_tree.specs.Lists.{own_counts}
 use Rattle.tn_tree.specs.Nets.{net_at}
-use Rattle.tn_tree.proofs.FirmLemmas.{all_added, amounts_small, number_is, slight_amounts, small_amounts, small_step, some_at, some_is, worth_step}
+use Rattle.tn_tree.proofs.FirmLemmas.{amounts_small, number_is, slight_amounts, small_amounts, small_step, some_at, some_is, worth_step}
 use Rattle.tn_tree.proofs.NetLemmas.{net_small}
 use Rattle.tn_tree.proofs.worths.worths_by.Goals as goal
 
