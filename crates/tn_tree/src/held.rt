@@ -211,7 +211,9 @@ fn keep_own(
     requires counts { length counts.now ≡ length market.now.trades.items }
     requires sold { length best.now.sold.items ≡ length market.now.trades.items }
     requires bought { length best.now.bought.items ≡ length market.now.trades.items }
-    ensures { IfOk result (λ kept. AreKept market.now.trades.items firms.now counts.now best.now.sold.items
+    ensures sold { IfOk result (λ kept. length kept.sold.items ≡ length market.now.trades.items) }
+    ensures bought { IfOk result (λ kept. length kept.bought.items ≡ length market.now.trades.items) }
+    ensures kept { IfOk result (λ kept. AreKept market.now.trades.items firms.now counts.now best.now.sold.items
         best.now.bought.items kept.sold.items kept.bought.items) }
 {
     let ends = sellers(alloc, &market.trades)?;
@@ -275,6 +277,8 @@ pub fn hold_counts(
     requires priced { length prices.now ≡ length market.now.trades.items }
     requires small { (t : ℕ) → t < length prices.now → IsAtMost (price_in prices.now t) most_each }
     ensures firms { IfOk result (λ held. length held.firms.items ≡ market.now.firms) }
+    ensures sold { IfOk result (λ held. length held.best.sold.items ≡ length market.now.trades.items) }
+    ensures bought { IfOk result (λ held. length held.best.bought.items ≡ length market.now.trades.items) }
     ensures held { IfOk result (λ held. (f : ℕ) (said : FirmCount) → slice_get held.firms.items f ≡ Some said
         → IsHeld market.now.trades.items f (firm_of market.now f) counts.now prices.now held.best.sold.items
         held.best.bought.items said) }

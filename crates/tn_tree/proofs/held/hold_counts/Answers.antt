@@ -95,7 +95,7 @@ returns-clause-held c = λ f said at.
     (subst (λ (xs : List ℕ). AreValues market c.deref-2.result.now c.deref-3.result.now xs
     c.in_ok-most.most.worths.items bests) c.deref-4.ensures.value c.in_ok-most.ensures.values)) in
     let kept = subst (λ (xs : List FirmCount). AreKept market.trades.items xs c.args.counts.now sold bought
-    c.in_ok-best-2.best.sold.items c.in_ok-best-2.best.bought.items) c.deref-8.ensures.value c.in_ok-best-2.ensures in
+    c.in_ok-best-2.best.sold.items c.in_ok-best-2.best.bought.items) c.deref-8.ensures.value c.in_ok-best-2.ensures.kept in
     let held = held_is market c.args.counts.now c.args.prices.now rates sold bought c.in_ok-best-2.best.sold.items
     c.in_ok-best-2.best.bought.items worths utilities bests c.in_ok-most.most.worths.items firms f below c.requires.within
     within.0 within.1 (rates_paid market.trades.items c.args.prices.now rates c.in_ok-rates.ensures c.requires.priced)

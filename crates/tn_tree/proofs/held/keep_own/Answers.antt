@@ -37,8 +37,20 @@ kept-requires-2-clause-ends c = λ t below.
     let firms = c.requires.firms in
     omega (arith, is, known, firms)
 
-pub returns : goal.returns
-returns c = record {
+pub returns-clause-sold : goal.returns-clause-sold
+returns-clause-sold c =
+    c.in_ok-sold.ensures.sized
+    ∙ (ends_are (λ trade. trade.seller) c.deref-2.result.now c.in_ok-ends.ends.items c.deref.result.now
+    c.args.market.now.trades.items 0 refl c.deref-2.ensures.value c.in_ok-ends.ensures c.deref.ensures.value).1
+
+pub returns-clause-bought : goal.returns-clause-bought
+returns-clause-bought c =
+    c.in_ok-bought.ensures.sized
+    ∙ (ends_are (λ trade. trade.buyer) c.deref-5.result.now c.in_ok-ends-2.ends.items c.deref-4.result.now
+    c.args.market.now.trades.items 0 refl c.deref-5.ensures.value c.in_ok-ends-2.ensures c.deref-4.ensures.value).1
+
+pub returns-clause-kept : goal.returns-clause-kept
+returns-clause-kept c = record {
   sellers = λ t below.
       let ends = ends_are (λ trade. trade.seller) c.deref-2.result.now c.in_ok-ends.ends.items c.deref.result.now
       c.args.market.now.trades.items t refl c.deref-2.ensures.value c.in_ok-ends.ensures c.deref.ensures.value in
