@@ -19,7 +19,7 @@ use Rattle.tn_links.proofs.TotalLemmas.{times-minus, total-most, total-plus, tot
 use Rattle.tn_counts.specs.Counts.{CountFirm, IsEquilibriumByCounts, count_surplus, payments, trade_at}
 use Rattle.tn_counts.specs.Laminar.{constants, firm_of, firms_of}
 use Rattle.tn_counts.specs.Markets.{ArePins, IsUnitMarket}
-use Rattle.tn_counts.specs.Ranges.{IsSettled}
+use Rattle.tn_counts.specs.Ranges.{IsSettled, LoseTogether}
 use Rattle.tn_counts.specs.Tree.{AreLinksOf, HasLink, LinkShape, bought_at, buyer_place, buyer_shape, counts_at, even, null_node, pin_place, pin_shape, price_by, root_node, root_shape, seller_place, seller_shape, set_shape, shape_of, sold_at, trade_node}
 use Rattle.tn_counts.specs.declared.market.Pin.{Pin}
 use Rattle.tn_counts.specs.declared.market.UnitMarket.{UnitMarket}
@@ -85,7 +85,7 @@ within_more (first ∷ links) (n ∷ levels) link level sized within last (suc j
 
 -- ---- a pin of one trade at 0
 
-abbrev pin_at : ℕ → Pin
+abbrev pub pin_at : ℕ → Pin
 pin_at t = record { trade = t; price = pos 0 }
 
 -- its link, over which so many units flow
@@ -328,13 +328,20 @@ pub record IsUneven (market : UnitMarket) (links : List Link) (levels after : Li
   pub shifted : IsShifted market links after t z
   pub gained : total_gain links after ≡ total_gain links levels -ℤ cost
 
--- as many units at the trade's price are at most what the uneven flow costs
-pub uneven_bound : (market : UnitMarket) (links : List Link) (levels after : List ℕ) (label : ℕ → ℤ) (t level : ℕ) (z cost : ℤ)
-    → IsUneven market links levels after label t z cost → IsPinLevel z level → (scale : ℤ) (counts : ℕ → ℕ) (prices : ℕ → ℤ)
-    → pos 1 ≤ℤ scale → IsEquilibriumByCounts (firms_of market) market.trades.items scale counts prices
-    → (prices t *ℤ z) ≤ℤ (scale *ℤ cost)
+-- closed over a pin it is a kept flow, at whose counts all firms together lose what it costs
+pub record IsClosed (market : UnitMarket) (links : List Link) (levels now : List ℕ) (t : ℕ) (z cost : ℤ) : Type 0 where
+  pub all : List Link
+  pub flow : IsFlowOf market (pin_at t ∷ []) all now
+  pub differ : (k : ℕ) → k < length market.trades.items
+      → pos (sold_at market now k) -ℤ pos (bought_at market now k) ≡ (if k == t then z else pos 0)
+  pub has : total (λ f. has_of market (counts_at market now f) f) market.firms
+      ≡ (total_gain links levels +ℤ constants market.sets.items) -ℤ cost
+
+pub closed : (market : UnitMarket) (links : List Link) (levels after : List ℕ) (label : ℕ → ℤ) (t level : ℕ) (z cost : ℤ)
+    → IsUneven market links levels after label t z cost → IsPinLevel z level
+    → IsClosed market links levels (after ++ level ∷ []) t z cost
 unfolding total
-uneven_bound market links levels after label t level z cost uneven_is pin_level scale counts prices least equal =
+closed market links levels after label t level z cost uneven_is pin_level =
     let is = uneven_is.settled.market_is in
     let pinned = pin_link market links t uneven_is.settled.of uneven_is.below in
     let all = links ++ pinned.link ∷ [] in
@@ -345,17 +352,6 @@ uneven_bound market links levels after label t level z cost uneven_is pin_level 
     ap (λ (j : ℕ). get_or now j 0) (sym sized) ∙ get_last after level in
     let level_is : pos (get_or now (pin_place market 0) 0) ≡ pos 4194304 +ℤ z =
     ap (λ (n : ℕ). pos n) level_at ∙ pin_level.is in
-    let best = equilibria_efficient (firms_of market) market.trades.items scale counts prices (have_firms market is) least
-    equal in
-    let settled = equilibria_efficient (firms_of market) market.trades.items (pos 1) (sold_at market levels)
-    (price_by market label) (have_firms market is) (omega (arith, ints))
-    (labels_equilibrium market links levels label is uneven_is.settled.of uneven_is.settled.kept uneven_is.settled.keeps) in
-    let counted = flows_counts market links levels is uneven_is.settled.of uneven_is.settled.kept in
-    let surplus = same_Some settled.0 (total_gain links levels +ℤ constants market.sets.items)
-    (sym settled.1.is ∙ counted.surplus) in
-    let no_more = settled.1.most counts best.0 best.1.within best.1.is in
-    let no_less = best.1.most (sold_at market levels) settled.0 settled.1.within settled.1.is in
-    let below = below_equilibrium market (pin_at t ∷ []) all now scale best.0 counts prices flow equal best.1.is in
     let have = firms_have market (pin_at t ∷ []) all now flow in
     let gained = uneven_is.gained in
     let more = gain_more links after pinned.link level uneven_is.shifted.one_each in
@@ -367,14 +363,41 @@ uneven_bound market links levels after label t level z cost uneven_is pin_level 
     let none_level = zero-*ℤ (pos level) in
     let none_back = zero-*ℤ (pos 4194304) in
     let none_now = zero-*ℤ (pos (get_or now (pin_place market 0) 0)) in
-    let own : ℤ = total (λ f. has_of market (counts_at market now f) f) market.firms in
-    let has : own ≡ best.0 -ℤ cost =
-    omega (arith, ints, have, gained, more, steps, at_level, at_back, now_level, none_level, none_back, none_now, surplus, no_more, no_less) in
+    record {
+      all = all;
+      flow = flow;
+      differ = λ k inside. uneven market all now t z flow uneven_is.below level_is k inside;
+      has = omega (arith, ints, have, gained, more, steps, at_level, at_back, now_level, none_level, none_back, none_now);
+    }
+
+-- as many units at the trade's price are at most what the uneven flow costs
+pub uneven_bound : (market : UnitMarket) (links : List Link) (levels after : List ℕ) (label : ℕ → ℤ) (t level : ℕ) (z cost : ℤ)
+    → IsUneven market links levels after label t z cost → IsPinLevel z level → (scale : ℤ) (counts : ℕ → ℕ) (prices : ℕ → ℤ)
+    → pos 1 ≤ℤ scale → IsEquilibriumByCounts (firms_of market) market.trades.items scale counts prices
+    → (prices t *ℤ z) ≤ℤ (scale *ℤ cost)
+uneven_bound market links levels after label t level z cost uneven_is pin_level scale counts prices least equal =
+    let is = uneven_is.settled.market_is in
+    let now = after ++ level ∷ [] in
+    let round = closed market links levels after label t level z cost uneven_is pin_level in
+    let best = equilibria_efficient (firms_of market) market.trades.items scale counts prices (have_firms market is) least
+    equal in
+    let settled = equilibria_efficient (firms_of market) market.trades.items (pos 1) (sold_at market levels)
+    (price_by market label) (have_firms market is) (omega (arith, ints))
+    (labels_equilibrium market links levels label is uneven_is.settled.of uneven_is.settled.kept uneven_is.settled.keeps) in
+    let counted = flows_counts market links levels is uneven_is.settled.of uneven_is.settled.kept in
+    let surplus = same_Some settled.0 (total_gain links levels +ℤ constants market.sets.items)
+    (sym settled.1.is ∙ counted.surplus) in
+    let no_more = settled.1.most counts best.0 best.1.within best.1.is in
+    let no_less = best.1.most (sold_at market levels) settled.0 settled.1.within settled.1.is in
+    let below = below_equilibrium market (pin_at t ∷ []) round.all now scale best.0 counts prices round.flow equal best.1.is in
+    let sum = round.has in
+    let has : total (λ f. has_of market (counts_at market now f) f) market.firms ≡ best.0 -ℤ cost =
+    omega (arith, ints, sum, surplus, no_more, no_less) in
     let times = ap (λ (x : ℤ). scale *ℤ x) has in
     let parts = times-minus scale best.0 cost in
     let same = total-same (λ k. prices k *ℤ (pos (sold_at market now k) -ℤ pos (bought_at market now k)))
     (λ k. if k == t then prices t *ℤ z else pos 0) (length market.trades.items)
-    (λ k inside. paid k (pos (sold_at market now k) -ℤ pos (bought_at market now k)) (cases_eq k t) (uneven market all now t z flow uneven_is.below level_is k inside)) in
+    (λ k inside. paid k (pos (sold_at market now k) -ℤ pos (bought_at market now k)) (cases_eq k t) (round.differ k inside)) in
     let one = total_one (prices t *ℤ z) t (length market.trades.items) uneven_is.below in
     omega (arith, ints, below, times, parts, same, one)
   where
@@ -388,3 +411,17 @@ uneven_bound market links levels after label t level z cost uneven_is pin_level 
         let test = ne_eqb k t other in
         ap (λ (y : ℤ). prices k *ℤ y) (is ∙ ap (λ (b : Bool). if b then z else pos 0) test)
         ∙ *ℤ-zero (prices k) ∙ sym (ap (λ (b : Bool). if b then prices t *ℤ z else pos 0) test)
+
+-- in the words of counts
+pub lose_together : (market : UnitMarket) (links : List Link) (levels now : List ℕ) (label : ℕ → ℤ) (t : ℕ) (z cost : ℤ)
+    → IsSettled market links levels label → IsClosed market links levels now t z cost
+    → LoseTogether market (sold_at market levels) (sold_at market now) (bought_at market now) cost
+lose_together market links levels now label t z cost settled round = record {
+  sold_within = λ k below. sold_within market (pin_at t ∷ []) round.all now round.flow k below;
+  bought_within = λ k below. bought_within market (pin_at t ∷ []) round.all now round.flow k below;
+  surplus = total_gain links levels +ℤ constants market.sets.items;
+  is = (flows_counts market links levels settled.market_is settled.of settled.kept).surplus;
+  worths = λ f. has_of market (counts_at market now f) f;
+  each = λ f below. worth_is market (pin_at t ∷ []) round.all now round.flow f;
+  sum = round.has;
+}

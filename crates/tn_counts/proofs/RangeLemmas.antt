@@ -66,10 +66,10 @@ module _ (market : UnitMarket) (links : List Link) (levels : List ℕ) (label : 
       settled.kept.within (apart_from_different (u ∷ path.inner) path.different)
       (avoids-cons w u path.inner other path.ends) path.least.walk
 
-  off_null : (t : ℕ) → t < length market.trades.items → null ≢ trade_node market t
+  pub off_null : (t : ℕ) → t < length market.trades.items → null ≢ trade_node market t
   off_null t below = λ e. omega (arith, e, below)
 
-  from_uneven : (t : ℕ) (listed : List ℕ) (cost : ℤ) → t < length market.trades.items
+  pub from_uneven : (t : ℕ) (listed : List ℕ) (cost : ℤ) → t < length market.trades.items
       → (path : IsLeastPath arc null (trade_node market t) listed cost)
       → IsUneven market links levels (pushed links 1 levels null path.inner (trade_node market t)) label t (pos 1) cost
   from_uneven t listed cost below path =
@@ -85,7 +85,7 @@ module _ (market : UnitMarket) (links : List Link) (levels : List ℕ) (label : 
         gained = steps.gained;
       }
 
-  to_uneven : (t : ℕ) (listed : List ℕ) (cost : ℤ) → t < length market.trades.items
+  pub to_uneven : (t : ℕ) (listed : List ℕ) (cost : ℤ) → t < length market.trades.items
       → (path : IsLeastPath arc (trade_node market t) null listed cost)
       → IsUneven market links levels (pushed links 1 levels (trade_node market t) path.inner null) label t
       (pos 0 -ℤ pos 1) cost

@@ -83,7 +83,7 @@ sum_same trades f counts others (set ∷ sets) same =
     ap₂ (λ (o : Option ℤ) (p : Option ℤ). if f == set.firm then both o p else p) (number_same trades set counts others same)
     (sum_same trades f counts others sets same)
 
-worth_same : (market : UnitMarket) (f : ℕ) (counts others : ℕ → ℕ) → AreSame market.trades.items counts others
+pub worth_same : (market : UnitMarket) (f : ℕ) (counts others : ℕ → ℕ) → AreSame market.trades.items counts others
     → (firm_of market f).worth counts ≡ (firm_of market f).worth others
 worth_same market f counts others same =
     ap₂ (λ (z : ℤ) (o : Option ℤ). both (Some z) o)

@@ -1,12 +1,13 @@
 -- The prices that a trade has over all equilibria by counts, whatever the counts in them.
-use Rattle.std.specs.Prelude.{◌≡◌, ℕ, suc, ◌<◌, ℤ, pos, neg_ℤ, ◌*ℤ◌, ◌≤ℤ◌, ◌<ℤ◌, List, [], length, Option, Some, None, option_map}
+use Rattle.std.specs.Prelude.{◌≡◌, ℕ, suc, ◌<◌, ℤ, pos, neg_ℤ, ◌-ℤ◌, ◌*ℤ◌, ◌==◌, if◌then◌else◌, ◌≤ℤ◌, ◌<ℤ◌, List, [], length, Option, Some, None, option_map}
 use Rattle.tn_base.specs.Walks.{KeepsArcs}
 use Rattle.tn_cycle.specs.Answers.{LeadsLeast}
 use Rattle.tn_links.specs.declared.link.Link.{Link}
 use Rattle.tn_links.specs.Flows.{IsKeptFlow}
 use Rattle.tn_links.specs.Lots.{link_arc}
-use Rattle.tn_counts.specs.Counts.{CountFirm, IsEquilibriumByCounts}
-use Rattle.tn_counts.specs.Laminar.{firms_of}
+use Rattle.tn_links.specs.Totals.{total}
+use Rattle.tn_counts.specs.Counts.{AreCounts, CountFirm, IsEquilibriumByCounts, count_surplus, trade_at}
+use Rattle.tn_counts.specs.Laminar.{firm_of, firms_of}
 use Rattle.tn_counts.specs.Markets.{IsUnitMarket}
 use Rattle.tn_counts.specs.Tree.{AreLinksOf, null_node, sold_at, trade_node}
 use Rattle.tn_counts.specs.declared.market.UnitMarket.{UnitMarket}
@@ -40,6 +41,23 @@ abbrev pub IsLowestByCounts : List CountFirm → List UnitTrade → ℕ → Opti
 IsLowestByCounts firms trades t (Some low) = IsPriceByCounts firms trades t low × NoneIsBelow firms trades t low
 IsLowestByCounts firms trades t None = (bound : ℤ) → (price : ℤ) × IsPriceByCounts firms trades t price
     × (price <ℤ bound)
+
+-- ---- what firms lose by a walk
+
+-- the counts of firm f, where the seller of a trade may sell other units than its buyer buys
+abbrev pub apart_counts : List UnitTrade → (ℕ → ℕ) → (ℕ → ℕ) → ℕ → ℕ → ℕ
+apart_counts trades sold bought f t = if f == (trade_at trades t).seller then sold t else bought t
+
+-- at these units sold and bought the firms' worths sum to so much less than the surplus of counts
+pub record LoseTogether (market : UnitMarket) (counts sold bought : ℕ → ℕ) (cost : ℤ) : Type 0 where
+  pub sold_within : AreCounts market.trades.items sold
+  pub bought_within : AreCounts market.trades.items bought
+  pub surplus : ℤ
+  pub is : count_surplus (firms_of market) counts ≡ Some surplus
+  pub worths : ℕ → ℤ
+  pub each : (f : ℕ) → f < market.firms
+      → (firm_of market f).worth (apart_counts market.trades.items sold bought f) ≡ Some (worths f)
+  pub sum : total worths market.firms ≡ surplus -ℤ cost
 
 -- ---- what least walks say of prices
 

@@ -7,9 +7,10 @@ pub mod AroundLemmas
 pub mod BuildLemmas
 pub mod ConstantLemmas
 pub mod SolveLemmas
-pub mod RangeLemmas
 pub mod WalkLemmas
 pub mod StepLemmas
 pub mod SupportLemmas
 pub mod HeldLemmas
 pub mod SurplusOfLemmas
+pub mod PathLemmas
+pub mod RangeLemmas

@@ -28,7 +28,9 @@ use Rattle.tn_counts.proofs.SurplusLemmas.{equilibrium_same, flow_of, have_firms
 use Rattle.tn_counts.proofs.WelfareLemmas.{equilibria_efficient}
 use Rattle.tn_tree.specs.declared.range.UnitRange.{UnitRange}
 use Rattle.tn_tree.specs.Lists.{count_in}
-use Rattle.tn_tree.specs.Ranges.{AreRangesBy, AreRangesByCounts, IsRangeBy, IsRangeByCounts, IsSmallRange}
+use Rattle.tn_tree.specs.declared.steps.UnitStep.{UnitStep}
+use Rattle.tn_tree.specs.Ranges.{AreRangesBy, AreRangesByCounts, AreWalks, IsLowPath, IsRangeBy, IsRangeByCounts, IsSmallRange, IsWalk, KeepsWalks, ShowsHighest, ShowsLowest, high_steps, low_steps}
+use Rattle.tn_tree.proofs.PathLemmas.{high_path, high_same, inside_walk, low_path, low_same}
 use Rattle.tn_tree.proofs.SolveLemmas.{levels_read}
 
 -- ---- one range after another
@@ -44,10 +46,10 @@ pushed_item (first ∷ xs) x (suc k) y at = elim (pushed_item xs x k y at) [
   | inr last ↦ inr (ap suc last.0, last.1)
 ]
 
-pub ranges_push : (from_null to_null : Reading) (place k : ℕ) (ranges after : List UnitRange) (range : UnitRange)
-    → after ≡ ranges ++ range ∷ [] → AreRangesBy from_null to_null place k ranges
-    → IsRangeBy from_null to_null (place + k) range → AreRangesBy from_null to_null place (k + 1) after
-ranges_push from_null to_null place k ranges after range made are is = record {
+pub ranges_push : (market : UnitMarket) (from_null to_null : Reading) (place k : ℕ) (ranges after : List UnitRange)
+    (range : UnitRange) → after ≡ ranges ++ range ∷ [] → AreRangesBy market from_null to_null place k ranges
+    → IsRangeBy market from_null to_null (place + k) range → AreRangesBy market from_null to_null place (k + 1) after
+ranges_push market from_null to_null place k ranges after range made are is = record {
   one_each = (let sized = are.one_each in let more = ap length made in let sum = length-append ranges (range ∷ []) in
       omega (arith, sized, more, sum));
   each = λ t one at. elim (pushed_item ranges range t one (sym (ap (λ (xs : List UnitRange). slice_get xs t) made) ∙ at)) [
@@ -56,9 +58,34 @@ ranges_push from_null to_null place k ranges after range made are is = record {
         let sized = are.one_each in
         let here = last.0 in
         let same : k ≡ t = omega (arith, sized, here) in
-        subst (IsRangeBy from_null to_null (place + t)) last.1
-        (subst (λ (j : ℕ). IsRangeBy from_null to_null (place + j) range) same is)
+        subst (IsRangeBy market from_null to_null (place + t)) last.1
+        (subst (λ (j : ℕ). IsRangeBy market from_null to_null (place + j) range) same is)
   ];
+}
+
+-- the same walks read by a finder that has listed some since
+pub keeps-trans : (first second third : Reading) → KeepsWalks first second → KeepsWalks second third
+    → KeepsWalks first third
+keeps-trans first second third one two =
+    record { distances = two.distances ∙ one.distances; walks = two.walks ∙ one.walks }
+
+pub walks-same : (market : UnitMarket) (from_null to_null from_now to_now : Reading) (node : ℕ)
+    → KeepsWalks from_null from_now → KeepsWalks to_null to_now → AreWalks market from_null to_null node
+    → AreWalks market from_now to_now node
+walks-same market from_null to_null from_now to_now node one two are = record {
+  high = rw (one.distances, one.walks) are.high;
+  low = rw (two.distances, two.walks) are.low;
+  small = rw (two.distances) are.small;
+}
+
+pub range-same : (market : UnitMarket) (from_null to_null from_now to_now : Reading) (node : ℕ) (range : UnitRange)
+    → KeepsWalks from_null from_now → KeepsWalks to_null to_now → IsRangeBy market from_now to_now node range
+    → IsRangeBy market from_null to_null node range
+range-same market from_null to_null from_now to_now node range one two is = record {
+  low = rw (sym two.distances) is.low;
+  low_path = rw (sym two.distances, sym two.walks) is.low_path;
+  high = rw (sym one.distances) is.high;
+  high_path = rw (sym one.distances, sym one.walks) is.high_path;
 }
 
 -- ---- costs of least walks are small
@@ -113,10 +140,32 @@ module _ (market : UnitMarket) (links : List Link) (levels : List ℕ) (label : 
       (omega arith) (λ e. omega (arith, e, below)) (omega (arith, below))
       (found.lead_from (trade_node market t) (omega (arith, below)))
 
+  walk_of : (u w : ℕ) (listed : List ℕ) (o : Option ℤ) → u < suc (null_node market) → w < suc (null_node market)
+      → LeadsLeast (link_arc links levels 1) u w listed o → IfSome o (λ c. IsWalk market listed)
+  walk_of u w listed None first last none = tt
+  walk_of u w listed (Some cost) first last path = record {
+    two = (let nodes = ap length path.nodes_are in let sum = length-append path.inner (w ∷ []) in
+        omega (arith, nodes, sum));
+    inside = subst (All (λ v. v < suc (null_node market))) (sym path.nodes_are)
+        (inside_walk market links levels label found.settled u w listed cost path first last path.inner path.nodes_are
+        path.least.walk);
+  }
+
+  pub walks_read : (t : ℕ) → t < length market.trades.items → AreWalks market from_null to_null (trade_node market t)
+  walks_read t below = record {
+    high = walk_of (null_node market) (trade_node market t) (walk_in from_null (trade_node market t))
+        (distance_in from_null (trade_node market t)) (omega arith) (omega (arith, below))
+        (found.lead_from (trade_node market t) (omega (arith, below)));
+    low = walk_of (trade_node market t) (null_node market) (walk_in to_null (trade_node market t))
+        (distance_in to_null (trade_node market t)) (omega (arith, below)) (omega arith)
+        (found.lead_to (trade_node market t) (omega (arith, below)));
+    small = low_small t below;
+  }
+
   module _ (counts : List ℕ) (ranges : List UnitRange) (n place : ℕ) (sized : n ≡ length market.trades.items)
       (at_place : place ≡ trade_node market 0)
       (counted : counts ≡ map (λ t. get_or levels (place + t) 0) (range_with_len 0 n))
-      (are : AreRangesBy from_null to_null place n ranges) where
+      (are : AreRangesBy market from_null to_null place n ranges) where
     node_is : (t : ℕ) → place + t ≡ trade_node market t
     node_is t = omega (arith, at_place)
 
@@ -127,15 +176,42 @@ module _ (market : UnitMarket) (links : List Link) (levels : List ℕ) (label : 
         omega (arith, inside, one_each, sized)
 
     by_node : (t : ℕ) (range : UnitRange) → slice_get ranges t ≡ Some range
-        → IsRangeBy from_null to_null (trade_node market t) range
-    by_node t range at = subst (λ (v : ℕ). IsRangeBy from_null to_null v range) (node_is t) (are.each t range at)
+        → IsRangeBy market from_null to_null (trade_node market t) range
+    by_node t range at = subst (λ (v : ℕ). IsRangeBy market from_null to_null v range) (node_is t) (are.each t range at)
 
     same_counts : (t : ℕ) → t < length market.trades.items → sold_at market levels t ≡ count_in counts t
     same_counts t below =
         levels_read levels counts n place (length market.sets.items + market.firms) t counted (omega (arith, below, sized))
         (omega (arith, at_place))
 
-    range_is : (t : ℕ) (range : UnitRange) → slice_get ranges t ≡ Some range → IsRangeByCounts market t range
+    high_shown : (t : ℕ) (o : Option ℤ) (steps : List (Option UnitStep)) → t < length market.trades.items
+        → LeadsLeast (link_arc links levels 1) (null_node market) (trade_node market t)
+        (walk_in from_null (trade_node market t)) o
+        → steps ≡ high_steps market o (walk_in from_null (trade_node market t))
+        → ShowsHighest market (count_in counts) t o steps
+    high_shown t None steps below lead made = made
+    high_shown t (Some cost) steps below lead made =
+        high_same market (sold_at market levels) (count_in counts) t steps cost same_counts below
+        (high_path market links levels label found.settled t (walk_in from_null (trade_node market t)) cost steps below lead
+        made)
+
+    low_shown : (t : ℕ) (o : Option ℤ) (steps : List (Option UnitStep)) → t < length market.trades.items
+        → LeadsLeast (link_arc links levels 1) (trade_node market t) (null_node market)
+        (walk_in to_null (trade_node market t)) o
+        → steps ≡ low_steps market o (walk_in to_null (trade_node market t))
+        → ShowsLowest market (count_in counts) t (option_map neg_ℤ o) steps
+    low_shown t None steps below lead made = made
+    low_shown t (Some cost) steps below lead made =
+        subst (IsLowPath market (count_in counts) t steps) (twice cost)
+        (low_same market (sold_at market levels) (count_in counts) t steps cost same_counts below
+        (low_path market links levels label found.settled t (walk_in to_null (trade_node market t)) cost steps below lead
+        made))
+      where
+        twice : (z : ℤ) → z ≡ neg_ℤ (neg_ℤ z)
+        twice z = omega (arith, ints)
+
+    range_is : (t : ℕ) (range : UnitRange) → slice_get ranges t ≡ Some range
+        → IsRangeByCounts market (count_in counts) t range
     range_is t range at =
         let by = by_node t range at in
         let below = below_of t range at in
@@ -143,9 +219,15 @@ module _ (market : UnitMarket) (links : List Link) (levels : List ℕ) (label : 
           lowest = subst (IsLowestByCounts (firms_of market) market.trades.items t) (sym by.low)
               (prices_walks.lowest market links levels label (walk_in to_null) (distance_in to_null) found.settled
               found.lead_to t below);
+          low_shown = subst (λ (o : Option ℤ). ShowsLowest market (count_in counts) t o range.low_path.items) (sym by.low)
+              (low_shown t (distance_in to_null (trade_node market t)) range.low_path.items below
+              (found.lead_to (trade_node market t) (omega (arith, below))) by.low_path);
           highest = subst (IsHighestByCounts (firms_of market) market.trades.items t) (sym by.high)
               (prices_walks.highest market links levels label (walk_in from_null) (distance_in from_null) found.settled
               found.lead_from t below);
+          high_shown = subst (λ (o : Option ℤ). ShowsHighest market (count_in counts) t o range.high_path.items)
+              (sym by.high) (high_shown t (distance_in from_null (trade_node market t)) range.high_path.items below
+              (found.lead_from (trade_node market t) (omega (arith, below))) by.high_path);
         }
 
     item_of : (t : ℕ) → t < length market.trades.items → (range : UnitRange) × (slice_get ranges t ≡ Some range)

@@ -23,7 +23,7 @@ use Rattle.tn_counts.proofs.SurplusLemmas.{traded_same}
 use Rattle.tn_counts.proofs.TreeLemmas.{first_within}
 use Rattle.tn_tree.specs.declared.steps.UnitStep.{UnitStep}
 use Rattle.tn_tree.specs.Steps.{AreOnce, entered, sells_at, step_at, trade_of, units_by}
-use Rattle.tn_tree.proofs.WalkLemmas.{arcs_less, arcs_same, arcs_sum, at_arc, more_by, never_less, off_first, off_second, on, rounded}
+use Rattle.tn_tree.proofs.WalkLemmas.{arcs_less, arcs_same, arcs_sum, at_arc, last_of, more_by, never_less, off_first, off_second, on, rounded}
 
 -- ---- the two inner nodes of a trade
 
@@ -34,7 +34,7 @@ seller_node market t = inner_node market (trade_at market.trades.items t).seller
 abbrev pub buyer_node : UnitMarket → ℕ → ℕ
 buyer_node market t = inner_node market (trade_at market.trades.items t).buyer t
 
-inner_below : (market : UnitMarket) (f t : ℕ) → f < market.firms
+pub inner_below : (market : UnitMarket) (f t : ℕ) → f < market.firms
     → inner_node market f t < length market.sets.items + market.firms
 inner_below market f t below =
     let found = first_within market.sets.items f t (root_node market f) (length market.sets.items) 0 (omega arith) in
@@ -172,7 +172,7 @@ module _ (market : UnitMarket) (links : List Link) (is : IsUnitMarket market) (o
           omega (arith, ints, sells, one, two)
 
   -- over the arcs of a walk
-  steps_add : (levels : List ℕ) (k : ℕ) → k < length market.trades.items → (u : ℕ) (vs : List ℕ) (w : ℕ) (cost : ℤ)
+  pub steps_add : (levels : List ℕ) (k : ℕ) → k < length market.trades.items → (u : ℕ) (vs : List ℕ) (w : ℕ) (cost : ℤ)
       → walk_cost (link_arc links levels 1) u vs w ≡ Some cost
       → arcs_sum (λ a v. units_by (step_at market true v a) k) u vs w
       ≡ arcs_sum (on (seller_node market k) (trade_node market k)) u vs w
@@ -185,15 +185,10 @@ module _ (market : UnitMarket) (links : List Link) (is : IsUnitMarket market) (o
 
 -- ---- the steps of listed nodes
 
-units-append : (one other : List (Option UnitStep)) (k : ℕ)
+pub units-append : (one other : List (Option UnitStep)) (k : ℕ)
     → units_by (one ++ other) k ≡ units_by one k +ℤ units_by other k
 units-append [] other k = omega (arith, ints)
 units-append (step ∷ steps) other k = let rest = units-append steps other k in omega (arith, ints, rest)
-
--- the last node of a list, the first of which is u
-abbrev pub last_of : ℕ → List ℕ → ℕ
-last_of u [] = u
-last_of u (v ∷ vs) = last_of v vs
 
 pub last_is : (u : ℕ) (vs : List ℕ) → get_or (u ∷ vs) (length (u ∷ vs) - 1) 0 ≡ last_of u vs
 last_is u [] = refl
@@ -223,7 +218,7 @@ round_sum market u vs k =
 -- ---- what a unit round a cycle does to counts
 
 -- what crosses between a trade and its two firms, each link once: as much comes from the seller as goes to the buyer
-crossed : (from_seller to_seller from_buyer to_buyer : ℤ) → pos 0 ≤ℤ from_seller → pos 0 ≤ℤ to_seller
+pub crossed : (from_seller to_seller from_buyer to_buyer : ℤ) → pos 0 ≤ℤ from_seller → pos 0 ≤ℤ to_seller
     → pos 0 ≤ℤ from_buyer → pos 0 ≤ℤ to_buyer → (from_seller +ℤ to_seller) ≤ℤ pos 1
     → (to_buyer +ℤ from_buyer) ≤ℤ pos 1 → from_seller -ℤ to_seller ≡ to_buyer -ℤ from_buyer → to_seller ≡ from_buyer
 crossed from_seller to_seller from_buyer to_buyer a b c d one two same = omega (arith, ints, a, b, c, d, one, two, same)
@@ -294,16 +289,16 @@ round_counts market links levels u vs cost flow negative cycle k below =
 -- ---- each trade has one step at most
 
 -- the trade of a step, and that of a node: none at null
-abbrev trade_in : Option UnitStep → Option ℕ
+abbrev pub trade_in : Option UnitStep → Option ℕ
 trade_in step = option_map (λ one. one.trade) step
 
-abbrev trade_at_node : UnitMarket → ℕ → Option ℕ
+abbrev pub trade_at_node : UnitMarket → ℕ → Option ℕ
 trade_at_node market v = if v == null_node market then None else Some (v - trade_node market 0)
 
 -- the step of a node
-record IsStepAt (market : UnitMarket) (v : ℕ) (step : Option UnitStep) : Type 0 where
-  low : trade_node market 0 ≤ v
-  trade : trade_in step ≡ trade_at_node market v
+pub record IsStepAt (market : UnitMarket) (v : ℕ) (step : Option UnitStep) : Type 0 where
+  pub low : trade_node market 0 ≤ v
+  pub trade : trade_in step ≡ trade_at_node market v
 
 record HasStep (market : UnitMarket) (v other : ℕ) : Type 0 where
   step : Option UnitStep
@@ -394,6 +389,27 @@ same_trade market v w first second same = elim (cases_eq v (null_node market)) [
     some : (x : ℕ) → x ≢ null_node market → trade_at_node market x ≡ Some (x - trade_node market 0)
     some x off = ap (λ (t : Bool). if t then None else Some (x - trade_node market 0)) (ne_eqb x (null_node market) off)
 
+-- the step of one node before those of others
+pub once_more : (market : UnitMarket) (before v : ℕ) (vs : List ℕ) (step : Option UnitStep) → IsStepAt market v step
+    → AreOnce (entered market before vs) → Avoids v vs → AreOnce (step ∷ entered market before vs)
+once_more market before v vs step is rest avoids = by
+  where
+    other_node : (k : ℕ) (one : Option UnitStep) → slice_get (entered market before vs) k ≡ Some one
+        → trade_in step ≡ trade_in one → ⊥
+    other_node k one at same =
+        let found = step_of market before vs k one at in
+        let node = same_trade market v found.node is.low found.at.low (sym is.trade ∙ same ∙ found.at.trade) in
+        avoids found.place 0 (slice_get_within vs found.place found.node found.is)
+        (get_or_from_slice_get vs found.place found.node 0 found.is ∙ sym node)
+
+    by : AreOnce (step ∷ entered market before vs)
+    by zero zero one other at_j at_k same = refl
+    by zero (suc k) one other at_j at_k same =
+        absurd (other_node k other at_k (ap trade_in (same_Some step one at_j) ∙ same))
+    by (suc j) zero one other at_j at_k same =
+        absurd (other_node j one at_j (ap trade_in (same_Some step other at_k) ∙ sym same))
+    by (suc j) (suc k) one other at_j at_k same = ap suc (rest j k one other at_j at_k same)
+
 pub entered_once : (market : UnitMarket) (before : ℕ) (vs : List ℕ) → AreApart vs → AreOnce (entered market before vs)
 unfolding AreApart
 entered_once market before [] apart = λ j k one other at_j at_k same. absurd (none-some one at_j)
@@ -403,26 +419,8 @@ entered_once market before (v ∷ vs) apart = elim (step_or_none market v before
       (entered_once market v vs apart.1)
   | inr has ↦
       subst AreOnce (sym (ap (λ (xs : List (Option UnitStep)). xs ++ entered market v vs) has.is))
-      (by has (entered_once market v vs apart.1) apart.0)
+      (once_more market v v vs has.step has.at (entered_once market v vs apart.1) apart.0)
 ]
-  where
-    other_node : (has : HasStep market v before) (k : ℕ) (step : Option UnitStep) → Avoids v vs
-        → slice_get (entered market v vs) k ≡ Some step → trade_in has.step ≡ trade_in step → ⊥
-    other_node has k step avoids at same =
-        let found = step_of market v vs k step at in
-        let node = same_trade market v found.node has.at.low found.at.low
-        (sym has.at.trade ∙ same ∙ found.at.trade) in
-        avoids found.place 0 (slice_get_within vs found.place found.node found.is)
-        (get_or_from_slice_get vs found.place found.node 0 found.is ∙ sym node)
-
-    by : (has : HasStep market v before) → AreOnce (entered market v vs) → Avoids v vs
-        → AreOnce (has.step ∷ entered market v vs)
-    by has rest avoids zero zero one other at_j at_k same = refl
-    by has rest avoids zero (suc k) one other at_j at_k same =
-        absurd (other_node has k other avoids at_k (ap trade_in (same_Some has.step one at_j) ∙ same))
-    by has rest avoids (suc j) zero one other at_j at_k same =
-        absurd (other_node has j one avoids at_j (ap trade_in (same_Some has.step other at_k) ∙ sym same))
-    by has rest avoids (suc j) (suc k) one other at_j at_k same = ap suc (rest j k one other at_j at_k same)
 
 pub entered_known : (market : UnitMarket) (before : ℕ) (vs : List ℕ) → All (λ v. v < suc (null_node market)) vs → (k : ℕ)
     (step : UnitStep) → slice_get (entered market before vs) k ≡ Some (Some step) → step.trade < length market.trades.items

@@ -1,5 +1,5 @@
 -- What labels, or a negative cycle, say of the counts of a kept flow.
-use Rattle.std.proofs.Common.{Option, ◌≡◌, ℕ, suc, ◌+◌, ◌-◌, ◌<◌, List, [], ◌∷◌, length, map, get_or, slice_get, refl, sym, ap, ◌∙◌, subst, arith, ℤ, pos}
+use Rattle.std.proofs.Common.{Option, Some, None, Bool, true, false, ◌==◌, if◌then◌else◌, ◌+ℤ◌, ◌≡◌, ℕ, suc, ◌+◌, ◌-◌, ◌<◌, List, [], ◌∷◌, length, map, get_or, slice_get, refl, sym, ap, ◌∙◌, subst, arith, ℤ, pos}
 use Rattle.std.specs.Prelude.{All}
 use Rattle.std.specs.List.{range_with_len}
 use Rattle.std.proofs.lemmas.Int.{ints}
@@ -14,11 +14,16 @@ use Rattle.tn_counts.specs.Laws.{IsGain}
 use Rattle.tn_counts.specs.Markets.{IsUnitMarket}
 use Rattle.tn_counts.specs.Tree.{AreLinksOf, null_node, price_by, sold_at}
 use Rattle.tn_counts.specs.declared.market.UnitMarket.{UnitMarket}
-use Rattle.tn_counts.proofs.SurplusLemmas.{cycles_bar, cycles_more, equilibrium_same, flow_of, labels_equilibrium}
+use Rattle.tn_counts.proofs.SurplusLemmas.{best_same, cycles_bar, cycles_more, equilibrium_same, firm_at, flow_of, labels_equilibrium, surplus_same, worth_same}
 use Rattle.tn_tree.specs.declared.steps.UnitStep.{UnitStep}
-use Rattle.tn_tree.specs.Lists.{price_in}
 use Rattle.tn_tree.specs.Steps.{AreOnce, entered, units_by}
-use Rattle.tn_tree.specs.Supports.{AreGain, AreSupports, IsUnsupported}
+use Rattle.tn_tree.specs.Supports.{AreGain, AreSupports, FindsNone, IsFirstUnable, IsUnsupported, SupportsByCounts}
+use Rattle.tn_tree.specs.declared.support.UnitSupport.{UnitSupport}
+use Rattle.tn_tree.specs.declared.support.UnitSupport.TheVariants.{Supported, Impossible, Cycle}
+use Rattle.tn_counts.specs.Counts.{CountFirm, IsBestCount, count_utility, trade_at}
+use Rattle.tn_counts.specs.Laminar.{firm_of}
+use Rattle.tn_tree.specs.Levels.{ArePossible}
+use Rattle.tn_tree.specs.Lists.{count_in, own_counts, price_in}
 use Rattle.tn_tree.proofs.SolveLemmas.{prices_small, read_at, sized_by}
 use Rattle.tn_tree.proofs.StepLemmas.{entered_known, entered_once, round_counts}
 
@@ -73,3 +78,92 @@ gains market links levels listed nodes count cost steps is of kept found made =
       },
       cycles_bar market links levels 1 found.first found.rest cost is of kept gain,
     )
+
+-- ---- counts that are the same of each trade
+
+unsupported_same : (market : UnitMarket) (counts others : ℕ → ℕ)
+    → ((t : ℕ) → t < length market.trades.items → counts t ≡ others t) → IsUnsupported market counts
+    → IsUnsupported market others
+unsupported_same market counts others same none scale prices least equal = none scale prices least (λ f firm at.
+    let found = firm_at market f firm at in
+    let best = equal f firm at in (
+      best.0,
+      subst (λ (one : CountFirm). IsBestCount market.trades.items
+          (count_utility market.trades.items scale prices f one) counts best.0) (sym found.1)
+          (best_same market scale prices f others counts best.0 (λ t below. sym (same t below))
+          (subst (λ (one : CountFirm). IsBestCount market.trades.items
+          (count_utility market.trades.items scale prices f one) others best.0) found.1 best.1)),
+    ))
+
+pub supports_same : (market : UnitMarket) (counts others : ℕ → ℕ) (support : UnitSupport)
+    → ((t : ℕ) → t < length market.trades.items → counts t ≡ others t) → SupportsByCounts market counts support
+    → SupportsByCounts market others support
+supports_same market counts others (Supported prices) same are = record {
+  one_each = are.one_each;
+  equilibrium = equilibrium_same market counts others (price_in prices.items) (price_in prices.items) same
+      (λ t below. refl) are.equilibrium;
+  small = are.small;
+}
+supports_same market counts others (Impossible f) same first = record {
+  known = first.known;
+  none = sym (worth_same market f counts others same) ∙ first.none;
+  earlier = λ g below. let before = first.earlier g below in
+      (before.0, sym (worth_same market g counts others same) ∙ before.1);
+}
+supports_same market counts others (Cycle nodes cost) same cycle = (
+  record {
+    negative = cycle.0.negative;
+    known = cycle.0.known;
+    once = cycle.0.once;
+    after = cycle.0.after;
+    stepped = λ t below. cycle.0.stepped t below
+        ∙ ap (λ (n : ℕ). pos n +ℤ units_by nodes.items t) (same t below);
+    more = record {
+      within = cycle.0.more.within;
+      surplus = cycle.0.more.surplus;
+      is = sym (surplus_same market counts others same) ∙ cycle.0.more.is;
+      gained = cycle.0.more.gained;
+    };
+  },
+  unsupported_same market counts others same cycle.1,
+)
+
+-- ---- the first firm for which counts are impossible
+
+-- where as much is sold as bought each firm has the counts of all
+worth_of : (market : UnitMarket) (counts : List ℕ) (f : ℕ)
+    → (firm_of market f).worth (own_counts market.trades.items counts counts f) ≡ (firm_of market f).worth (count_in counts)
+worth_of market counts f =
+    worth_same market f (own_counts market.trades.items counts counts f) (count_in counts)
+    (λ t below. by (f == (trade_at market.trades.items t).seller) (count_in counts t))
+  where
+    by : (b : Bool) (n : ℕ) → (if b then n else n) ≡ n
+    by true n = refl
+    by false n = refl
+
+-- what each firm has by counts
+pub record AreWorths (market : UnitMarket) (counts : List ℕ) (worths : List (Option ℤ)) : Type 0 where
+  pub sized : length worths ≡ market.firms
+  pub each : (f : ℕ) → f < market.firms
+      → get_or worths f None ≡ (firm_of market f).worth (own_counts market.trades.items counts counts f)
+
+pub possible_by : (market : UnitMarket) (counts : List ℕ) (worths : List (Option ℤ)) → AreWorths market counts worths
+    → FindsNone worths None → ArePossible market (λ f. count_in counts)
+possible_by market counts worths are found f below =
+    let sized = are.sized in
+    let here = found f (omega (arith, below, sized)) in
+    (here.0, sym (worth_of market counts f) ∙ sym (are.each f below) ∙ here.1)
+
+pub unable_by : (market : UnitMarket) (counts : List ℕ) (worths : List (Option ℤ)) (f : ℕ) → AreWorths market counts worths
+    → FindsNone worths (Some f) → IsFirstUnable market (count_in counts) f
+unable_by market counts worths f are found =
+    let sized = are.sized in
+    let inside = found.0 in
+    let below : f < market.firms = omega (arith, inside, sized) in
+    record {
+      known = below;
+      none = sym (worth_of market counts f) ∙ sym (are.each f below) ∙ found.1;
+      earlier = λ g before.
+          let here = found.2 g before in
+          (here.0, sym (worth_of market counts g) ∙ sym (are.each g (omega (arith, before, below))) ∙ here.1);
+    }

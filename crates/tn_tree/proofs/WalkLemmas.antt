@@ -344,3 +344,50 @@ rounded nodes links levels u (v ∷ x ∷ vs) cost plain sized within negative c
       level = λ j link at. level_round nodes links levels u v x vs cost j link plain sized within at apart cycle.walk;
       once = λ p q other. once_round p q u v x vs other apart;
     }
+
+-- ---- the ends of a walk
+
+-- the last node of a list, the first of which is u
+abbrev pub last_of : ℕ → List ℕ → ℕ
+last_of u [] = u
+last_of u (v ∷ vs) = last_of v vs
+
+-- the first node after u of a walk to w
+abbrev pub next_of : List ℕ → ℕ → ℕ
+next_of [] w = w
+next_of (v ∷ vs) w = v
+
+-- no arc begins at a node that a walk meets at its end alone
+pub none_leave : (p q u : ℕ) (vs : List ℕ) (w : ℕ) → Avoids p (u ∷ vs) → arcs_sum (on p q) u vs w ≡ pos 0
+none_leave p q u [] w off = off_first p q u w (avoids-head p u [] off)
+none_leave p q u (v ∷ vs) w off =
+    let one = off_first p q u v (avoids-head p u (v ∷ vs) off) in
+    let rest = none_leave p q v vs w (avoids-tail p u (v ∷ vs) off) in
+    omega (arith, ints, one, rest)
+
+-- and only the last one ends at it
+pub last_enters : (p u : ℕ) (vs : List ℕ) (w : ℕ) → Avoids w vs → arcs_sum (on p w) u vs w ≡ one_if (last_of u vs == p)
+last_enters p u [] w off = ap (λ (b : Bool). one_if (u == p && b)) (eq-eqb w w refl) ∙ by (u == p)
+  where
+    by : (b : Bool) → one_if (b && true) ≡ one_if b
+    by true = refl
+    by false = refl
+last_enters p u (v ∷ vs) w off =
+    let one = off_second p w u v (avoids-head w v vs off) in
+    let rest = last_enters p v vs w (avoids-tail w v vs off) in
+    omega (arith, ints, one, rest)
+
+-- no arc ends at a node that a walk meets at its begin alone, and only the first one begins at it
+pub none_enter : (p q u : ℕ) (vs : List ℕ) (w : ℕ) → Avoids q vs → w ≢ q → arcs_sum (on p q) u vs w ≡ pos 0
+none_enter p q u [] w off last = off_second p q u w last
+none_enter p q u (v ∷ vs) w off last =
+    let one = off_second p q u v (avoids-head q v vs off) in
+    let rest = none_enter p q v vs w (avoids-tail q v vs off) last in
+    omega (arith, ints, one, rest)
+
+pub first_leaves : (q u : ℕ) (vs : List ℕ) (w : ℕ) → Avoids u vs → arcs_sum (on u q) u vs w ≡ one_if (next_of vs w == q)
+first_leaves q u [] w off = ap (λ (b : Bool). one_if (b && w == q)) (eq-eqb u u refl)
+first_leaves q u (v ∷ vs) w off =
+    let one : on u q u v ≡ one_if (v == q) = ap (λ (b : Bool). one_if (b && v == q)) (eq-eqb u u refl) in
+    let rest = none_leave u q v vs w off in
+    omega (arith, ints, one, rest)

@@ -1,5 +1,5 @@
 -- Steps: one unit more or fewer of a trade, or null.
-use Rattle.std.specs.Prelude.{◌≡◌, ℕ, ◌-◌, ℤ, pos, ◌+ℤ◌, ◌-ℤ◌, List, [], ◌∷◌, ◌++◌, Bool, true, ◌==◌, not, nat_le, if◌then◌else◌, Option, Some, None, option_map, slice_get}
+use Rattle.std.specs.Prelude.{◌≡◌, ℕ, ◌-◌, ℤ, pos, ◌+ℤ◌, ◌-ℤ◌, List, [], ◌∷◌, ◌++◌, Bool, true, false, ◌==◌, not, nat_le, if◌then◌else◌, Option, Some, None, option_map, slice_get, get_or, drop, length, ◌<◌}
 use Rattle.tn_counts.specs.Counts.{trade_at}
 use Rattle.tn_counts.specs.Tree.{inner_node, null_node, trade_node}
 use Rattle.tn_counts.specs.declared.market.UnitMarket.{UnitMarket}
@@ -13,6 +13,11 @@ step_units (Some step) t = if step.trade == t then (if step.more then pos 1 else
 abbrev pub units_by : List (Option UnitStep) → ℕ → ℤ
 units_by [] t = pos 0
 units_by (step ∷ steps) t = step_units step t +ℤ units_by steps t
+
+-- they are steps of trades of the market
+abbrev pub AreKnown : UnitMarket → List (Option UnitStep) → Type 0
+AreKnown market steps = (k : ℕ) (step : UnitStep) → slice_get steps k ≡ Some (Some step)
+    → step.trade < length market.trades.items
 
 -- no trade has two of them, and null is there once at most
 abbrev pub AreOnce : List (Option UnitStep) → Type 0
@@ -44,3 +49,8 @@ step_at market enters v other = if v == null_node market then None ∷ []
 abbrev pub entered : UnitMarket → ℕ → List ℕ → List (Option UnitStep)
 entered market before [] = []
 entered market before (v ∷ vs) = step_at market true v before ++ entered market v vs
+
+-- the steps of a walk from a trade: the trade's own by where the walk leaves it, the others by where it enters them
+abbrev pub stepped_down : UnitMarket → List ℕ → List (Option UnitStep)
+stepped_down market nodes = step_at market false (get_or nodes 0 0) (get_or nodes 1 0)
+    ++ entered market (get_or nodes 0 0) (drop 1 nodes)

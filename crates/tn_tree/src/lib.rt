@@ -16,9 +16,9 @@ mod surplus;
 mod worths;
 
 pub use best::{BestCounts, best_counts};
-pub use range::{UnitRange, UnitRanges, range_market};
 pub use held::{FirmCount, HeldCounts, hold_counts};
+pub use range::{UnitRange, UnitRanges, range_market};
 pub use solve::{Solved, solve_market};
 pub use steps::UnitStep;
-pub use support::UnitSupport;
+pub use support::{UnitSupport, support_counts};
 pub use surplus::surplus_of;

@@ -3,7 +3,7 @@
 ghost use Rattle.std.specs.Prelude.{◌≡◌, ℕ, ◌-◌, ◌<◌, ◌≤◌, ◌++◌, [], All, IfOk, get_or, length, suc, true};
 ghost use Rattle.tn_counts.specs.Markets.{IsUnitMarket};
 ghost use Rattle.tn_counts.specs.Tree.{AreLinksOf, null_node, trade_node};
-ghost use Rattle.tn_tree.specs.Steps.{entered, step_at};
+ghost use Rattle.tn_tree.specs.Steps.{entered, step_at, stepped_down};
 
 use crate::around::trade_node;
 use std::alloc::Global;
@@ -48,6 +48,27 @@ fn add_step(
     Ok(())
 }
 
+/// Adds what nodes are on a walk, the first of which is entered from another node.
+fn add_entered(
+    market: &UnitMarket,
+    links: &Links,
+    steps: &mut Vec<Option<UnitStep>>,
+    from: u32,
+    nodes: &[u32],
+) -> Result<(), OutOfMemory>
+    requires market { IsUnitMarket market.now }
+    requires links { AreLinksOf market.now [] links.now.links.items }
+    requires inside { All (λ v. v < suc (null_node market.now)) nodes.now }
+    ensures { IfOk result (λ done. steps.new.items ≡ steps.old.items ++ entered market.now from nodes.now) }
+{
+    let mut before = from;
+    for node in nodes {
+        add_step(market, links, steps, *node, before, true)?;
+        before = *node;
+    }
+    Ok(())
+}
+
 /// The steps of the nodes of a walk that is closed, or begins with null.
 pub(crate) fn steps_round(
     alloc: Global,
@@ -63,10 +84,25 @@ pub(crate) fn steps_round(
         ≡ entered market.now (get_or nodes.now (length nodes.now - 1) 0) nodes.now) }
 {
     let mut steps = Vec::new(alloc);
-    let mut before = nodes[nodes.len() - 1];
-    for node in nodes {
-        add_step(market, links, &mut steps, *node, before, true)?;
-        before = *node;
-    }
+    add_entered(market, links, &mut steps, nodes[nodes.len() - 1], nodes)?;
+    Ok(steps)
+}
+
+/// The steps of the nodes of a walk that begins with a trade and ends with null.
+pub(crate) fn steps_down(
+    alloc: Global,
+    market: &UnitMarket,
+    links: &Links,
+    nodes: &[u32],
+) -> Result<Vec<Option<UnitStep>>, OutOfMemory>
+    requires market { IsUnitMarket market.now }
+    requires links { AreLinksOf market.now [] links.now.links.items }
+    requires two { 2 ≤ length nodes.now }
+    requires inside { All (λ v. v < suc (null_node market.now)) nodes.now }
+    ensures { IfOk result (λ steps. steps.items ≡ stepped_down market.now nodes.now) }
+{
+    let mut steps = Vec::new(alloc);
+    add_step(market, links, &mut steps, nodes[0], nodes[1], false)?;
+    add_entered(market, links, &mut steps, nodes[0], &nodes[1..])?;
     Ok(steps)
 }

@@ -6,7 +6,8 @@ use Rattle.tn_base.specs.Arcs.{IsAtMost}
 use Rattle.tn_counts.specs.Tree.{trade_node}
 use Rattle.tn_counts.specs.Widths.{most_unit_price}
 use Rattle.tn_cycle.specs.Answers.{distance_in, label_in}
-use Rattle.tn_tree.proofs.RangeLemmas.{found_by, labels_lent, low_small, ranges_are, ranges_small}
+use Rattle.tn_tree.specs.Ranges.{AreWalks}
+use Rattle.tn_tree.proofs.RangeLemmas.{found_by, labels_lent, ranges_are, ranges_small, walks_read}
 use Rattle.tn_tree.proofs.range.range_market.Goals as goal
 
 pub walks_from-requires-clause-labelled : goal.walks_from-requires-clause-labelled
@@ -30,15 +31,15 @@ walks_to-requires-clause-labelled c =
     c.in_ok-levels.ensures.labelled (omega (arith, sized, count, node, nodes)) c.deref-2.ensures.value
     c.label_as.ensures.labels
 
-pub ranges_from-requires-clause-small : goal.ranges_from-requires-clause-small
-ranges_from-requires-clause-small c = λ t below.
+pub ranges_from-requires-clause-walks : goal.ranges_from-requires-clause-walks
+ranges_from-requires-clause-walks c = λ t below.
     let sized = c.args.market.now.trades.ok.0 in
     let count = c.len-trades.ensures in
     let node = c.trade_node-null.ensures in
     let first = c.trade_node-place.ensures in
     let place : trade_node c.args.market.now t ≡ c.trade_node-place.result + t = omega (arith, first) in
-    subst (λ (v : ℕ). IfSome (distance_in c.walks_to.new.finder v) (λ cost. IsAtMost cost most_unit_price)) place
-    (low_small c.args.market.now c.in_ok-links.links.links.items c.in_ok-levels.levels.items
+    subst (λ (v : ℕ). AreWalks c.args.market.now c.walks_from.new.finder c.walks_to.new.finder v) place
+    (walks_read c.args.market.now c.in_ok-links.links.links.items c.in_ok-levels.levels.items
     (label_in c.settled.new.finder.labels) c.walks_from.new.finder c.walks_to.new.finder
     (found_by c.args.market.now c.in_ok-links.links.links.items c.in_ok-levels.levels.items c.deref.result.now
     c.deref-2.result.now c.settled.new.finder.labels c.in_ok-links.links.nodes c.trade_node-null.result
