@@ -1,5 +1,5 @@
 -- What least walks over the links of a market say in lists of ranges.
-use Rattle.std.proofs.Common.{◌≡◌, ◌≢◌, ℕ, zero, suc, ◌+◌, ◌*◌, ◌<◌, ◌⊎◌, inl, inr, List, [], ◌∷◌, ◌++◌, length, map, get_or, Option, Some, None, option_map, refl, sym, ap, ◌∙◌, subst, arith, ℤ, pos}
+use Rattle.std.proofs.Common.{◌≡◌, ◌≢◌, ℕ, zero, suc, ◌+◌, ◌<◌, ◌⊎◌, inl, inr, List, [], ◌∷◌, ◌++◌, length, map, get_or, Option, Some, None, option_map, refl, sym, ap, ◌∙◌, subst, arith, ℤ, pos}
 use Rattle.std.specs.Prelude.{All, IfSome, neg_ℤ, slice_get}
 use Rattle.std.specs.List.{range_with_len}
 use Rattle.std.proofs.lemmas.Int.{ints}
@@ -31,7 +31,7 @@ use Rattle.tn_tree.specs.Lists.{count_in}
 use Rattle.tn_tree.specs.declared.steps.UnitStep.{UnitStep}
 use Rattle.tn_tree.specs.Ranges.{AreRangesBy, AreRangesByCounts, AreWalks, IsLowPath, IsRangeBy, IsRangeByCounts, IsSmallRange, IsWalk, KeepsWalks, ShowsHighest, ShowsLowest, high_steps, low_steps}
 use Rattle.tn_tree.proofs.PathLemmas.{high_path, high_same, inside_walk, low_path, low_same}
-use Rattle.tn_tree.proofs.SolveLemmas.{levels_read}
+use Rattle.tn_tree.proofs.SolveLemmas.{arcs_small, levels_read}
 
 -- ---- one range after another
 
@@ -108,11 +108,7 @@ walk_cost_small market links levels label u w listed (Some cost) settled u_insid
     let trades = settled.market_is.few_trades in
     let small = walk_small arc most_unit_amount (unit_arcs_small market links levels settled.market_is settled.of) u
     path.inner w cost path.least.walk in
-    by (length path.inner) (omega (arith, few, sets, firms, trades)) small
-  where
-    by : (k : ℕ) → k < 9216 → IsAtMost cost ((k + 1) * most_unit_amount) → IsAtMost cost most_unit_price
-    by k below at = let low = at.low in let high = at.high in
-        record { low = omega (arith, ints, below, low, high); high = omega (arith, ints, below, low, high) }
+    arcs_small (length path.inner) cost (omega (arith, few, sets, firms, trades)) small
 
 -- ---- what they say of prices
 

@@ -57,6 +57,13 @@ labels_small size nodes links levels labels plain few are v below =
     let low = are.low 1000000000000000000 v (small-link_arc size links levels 1 plain (omega arith)) inside in
     record { low = omega (arith, ints, low, few); high = omega (arith, ints, high) }
 
+-- what a walk or a cycle costs that has no node twice
+pub arcs_small : (k : ℕ) (cost : ℤ) → k < 9217 → IsAtMost cost ((k + 1) * most_unit_amount) → IsAtMost cost most_unit_price
+arcs_small k cost below at =
+    let low = at.low in
+    let high = at.high in
+    record { low = omega (arith, ints, below, low, high); high = omega (arith, ints, below, low, high) }
+
 -- what a label and the difference of two are at most, where a unit costs little
 pub prices_small : (market : UnitMarket) (links : List Link) (levels : List ℕ) (labels : List ℤ) (nodes : ℕ)
     (prices : List ℤ) → IsUnitMarket market → AreLinksOf market [] links

@@ -3,8 +3,11 @@ use Rattle.std.proofs.Common.{Option, Some, None, Bool, true, false, ◌==◌, i
 use Rattle.std.specs.Prelude.{All}
 use Rattle.std.specs.List.{range_with_len}
 use Rattle.std.proofs.lemmas.Int.{ints}
+use Rattle.std.proofs.lemmas.List.Elements.{All-head, All-tail}
+use Rattle.tn_base.specs.Arcs.{IsAtMost}
+use Rattle.tn_base.specs.Walks.{IsCycle}
 use Rattle.tn_cycle.specs.Answers.{AreLabels, IsNegative, label_in}
-use Rattle.tn_cycle.proofs.WalkLemmas.{apart_from_different}
+use Rattle.tn_cycle.proofs.WalkLemmas.{AreApart, apart_from_different, few_apart, walk_small}
 use Rattle.tn_links.specs.declared.link.Link.{Link}
 use Rattle.tn_links.specs.Flows.{IsKeptFlow}
 use Rattle.tn_links.specs.LotLemmas.{between-link_arc}
@@ -13,7 +16,9 @@ use Rattle.tn_links.proofs.RoundLemmas.{round_of}
 use Rattle.tn_counts.specs.Laws.{IsGain}
 use Rattle.tn_counts.specs.Markets.{IsUnitMarket}
 use Rattle.tn_counts.specs.Tree.{AreLinksOf, null_node, price_by, sold_at}
+use Rattle.tn_counts.specs.Widths.{most_unit_amount, most_unit_price}
 use Rattle.tn_counts.specs.declared.market.UnitMarket.{UnitMarket}
+use Rattle.tn_counts.proofs.SizeLemmas.{unit_arcs_small}
 use Rattle.tn_counts.proofs.SurplusLemmas.{best_same, cycles_bar, cycles_more, equilibrium_same, firm_at, flow_of, labels_equilibrium, surplus_same, worth_same}
 use Rattle.tn_tree.specs.declared.steps.UnitStep.{UnitStep}
 use Rattle.tn_tree.specs.Steps.{AreOnce, entered, units_by}
@@ -24,7 +29,7 @@ use Rattle.tn_counts.specs.Counts.{CountFirm, IsBestCount, count_utility, trade_
 use Rattle.tn_counts.specs.Laminar.{firm_of}
 use Rattle.tn_tree.specs.Levels.{ArePossible}
 use Rattle.tn_tree.specs.Lists.{count_in, own_counts, price_in}
-use Rattle.tn_tree.proofs.SolveLemmas.{prices_small, read_at, sized_by}
+use Rattle.tn_tree.proofs.SolveLemmas.{arcs_small, prices_small, read_at, sized_by}
 use Rattle.tn_tree.proofs.StepLemmas.{entered_known, entered_once, round_counts}
 
 pub supports : (market : UnitMarket) (links : List Link) (levels : List ℕ) (labels : List ℤ) (nodes : ℕ)
@@ -49,6 +54,22 @@ inside_of market links levels listed nodes count cost is of kept found =
     (round_of (suc (null_node market)) nodes (link_arc links levels 1) listed cost count
     (between-link_arc (suc (null_node market)) links levels 1 (flow_of market links levels is of kept).plain) found).inside
 
+cycle_small : (market : UnitMarket) (links : List Link) (levels : List ℕ) (first : ℕ) (rest : List ℕ) (cost : ℤ)
+    → IsUnitMarket market → AreLinksOf market [] links → All (λ v. v < suc (null_node market)) (first ∷ rest)
+    → IsCycle (link_arc links levels 1) first rest cost → IsAtMost cost most_unit_price
+unfolding AreApart
+cycle_small market links levels first rest cost is of inside cycle =
+    let nodes : ℕ = suc (null_node market) in
+    let apart = apart_from_different (first ∷ rest) cycle.different in
+    let few = few_apart nodes first rest (All-head (λ v. v < nodes) first rest inside)
+    (All-tail (λ v. v < nodes) first rest inside) apart.0 apart.1 in
+    let sets = is.few_sets in
+    let firms = is.few_firms in
+    let trades = is.few_trades in
+    arcs_small (length rest) cost (omega (arith, few, sets, firms, trades))
+    (walk_small (link_arc links levels 1) most_unit_amount (unit_arcs_small market links levels is of) first rest first cost
+    cycle.walk)
+
 pub gains : (market : UnitMarket) (links : List Link) (levels listed : List ℕ) (nodes count : ℕ) (cost : ℤ)
     (steps : List (Option UnitStep)) → IsUnitMarket market → AreLinksOf market [] links → IsKeptFlow links levels
     → IsNegative nodes (link_arc links levels 1) listed cost count
@@ -64,6 +85,7 @@ gains market links levels listed nodes count cost steps is of kept found made =
     (inside_of market links levels listed nodes count cost is of kept found) in (
       record {
         negative = found.negative;
+        small = cycle_small market links levels found.first found.rest cost is of inside found.cycle;
         known = λ k step at. entered_known market (get_or all (length all - 1) 0) all inside k step
             (sym (ap (λ (xs : List (Option UnitStep)). slice_get xs k) steps_are) ∙ at);
         once = subst AreOnce (sym steps_are)
@@ -113,6 +135,7 @@ supports_same market counts others (Impossible f) same first = record {
 supports_same market counts others (Cycle nodes cost) same cycle = (
   record {
     negative = cycle.0.negative;
+    small = cycle.0.small;
     known = cycle.0.known;
     once = cycle.0.once;
     after = cycle.0.after;

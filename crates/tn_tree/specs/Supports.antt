@@ -26,6 +26,7 @@ IsUnsupported market counts = (scale : ℤ) (prices : ℕ → ℤ) → pos 1 ≤
 -- steps of trades, each of them once, that lead to other counts with more surplus, by what they cost turned round
 pub record AreGain (market : UnitMarket) (counts : ℕ → ℕ) (steps : List (Option UnitStep)) (cost : ℤ) : Type 0 where
   pub negative : cost <ℤ pos 0
+  pub small : IsAtMost cost most_unit_price
   pub known : AreKnown market steps
   pub once : AreOnce steps
   pub after : ℕ → ℕ
