@@ -1,2 +1,7 @@
 -- The files of lemmas of this crate.
 pub mod SolutionLemmas
+pub mod AlikeLemmas
+pub mod StepLemmas
+pub mod RangedLemmas
+pub mod SupportedLemmas
+pub mod KeptLemmas

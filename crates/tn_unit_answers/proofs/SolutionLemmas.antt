@@ -14,18 +14,19 @@ use Rattle.tn_counts.specs.declared.trade.UnitTrade.{UnitTrade}
 use Rattle.tn_counts.proofs.WelfareLemmas.{equilibria_efficient}
 use Rattle.tn_read_units.specs.Documents.{IsUnitDocument}
 use Rattle.tn_read_units.specs.Firms.{UnitDocument, WrittenFirm}
+use Rattle.tn_read_units.specs.Laws.{HasItsWorths}
 use Rattle.tn_read_units.specs.Trades.{IsUnitTrade}
 use Rattle.tn_read_units.specs.Worths.{firms_from, written_firms}
 use Rattle.tn_read_units.proofs.SameLemmas.{same_market}
 use Rattle.tn_tree.specs.Lists.{count_in, price_in}
 use Rattle.tn_unit_answers.specs.Solve.{IsSolutionByCounts, unit_ends}
 
-firms_count : (trades : List UnitTrade) (f : ℕ) (firms : List WrittenFirm)
+pub firms_count : (trades : List UnitTrade) (f : ℕ) (firms : List WrittenFirm)
     → length (firms_from trades f firms) ≡ length firms
 firms_count trades f [] = refl
 firms_count trades f (firm ∷ firms) = ap suc (firms_count trades (suc f) firms)
 
-trade_is : (document : UnitDocument) → IsUnitDocument document → (t : ℕ) → t < length document.head.trades
+pub trade_is : (document : UnitDocument) → IsUnitDocument document → (t : ℕ) → t < length document.head.trades
     → IsUnitTrade (length document.head.names.firms) (trade_at document.head.trades t)
 trade_is document is t below =
     All-get_or (IsUnitTrade (length document.head.names.firms)) document.head.trades t
@@ -43,7 +44,7 @@ counts_short document counts is within counted =
     omega (arith, units, few))
 
 -- the ends of the trades are firms of the document
-ends_are : (document : UnitDocument) → IsUnitDocument document
+pub ends_are : (document : UnitDocument) → IsUnitDocument document
     → HaveFirms (length (written_firms document)) document.head.trades
 ends_are document is =
     let count = firms_count document.head.trades 0 document.firms in
@@ -52,6 +53,18 @@ ends_are document is =
       sellers = λ t below. let known = (trade_is document is t below).between.seller in omega (arith, known, count, named);
       buyers = λ t below. let known = (trade_is document is t below).between.buyer in omega (arith, known, count, named);
     }
+
+-- a market that was made for a document has its worths
+pub has_worths : (document : UnitDocument) (market : UnitMarket) → IsUnitDocument document
+    → market.firms ≡ length document.head.names.firms
+    → ((f : ℕ) (firm : CountFirm) → slice_get (written_firms document) f ≡ Some firm → (counts : ℕ → ℕ)
+    → AreCounts document.head.trades counts → (firm_of market f).worth counts ≡ firm.worth counts)
+    → HasItsWorths document market
+has_worths document market is firms worths =
+    let named = is.named in
+    let count = firms_count document.head.trades 0 document.firms in
+    let all : market.firms ≡ length (written_firms document) = omega (arith, firms, named, count) in
+    record { count = all; worths = worths }
 
 pub surplus_within : (surplus : ℤ) → IsAtMost surplus most_unit_surplus → IsWithinClaim surplus
 surplus_within surplus small = record { low = omega (arith, ints, small.low); high = omega (arith, ints, small.high) }
@@ -66,11 +79,7 @@ pub solution : (document : UnitDocument) (market : UnitMarket) (counts : List �
     → length prices ≡ length market.trades.items → ends ≡ map unit_ends document.head.trades
     → IsSolutionByCounts document counts prices surplus ends
 solution document market counts prices surplus ends is firms trades worths equilibrium sum counted priced ended =
-    let same = same_market document market (record {
-      count = firms ∙ (let named = is.named in let count = firms_count document.head.trades 0 document.firms in
-          omega (arith, named, count));
-      worths = worths;
-    }) in
+    let same = same_market document market (has_worths document market is firms worths) in
     let here = same.equilibria (pos 1) (count_in counts) (price_in prices)
     (subst (λ ts. IsEquilibriumByCounts (firms_of market) ts (pos 1) (count_in counts) (price_in prices)) trades
     equilibrium) in

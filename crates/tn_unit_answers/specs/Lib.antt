@@ -1,2 +1,6 @@
 -- The files of definitions of this crate.
 pub mod Solve
+pub mod Steps
+pub mod Range
+pub mod Said
+pub mod Support

@@ -1,6 +1,11 @@
 //! The answers of the commands to documents whose trades have units.
 #![tactic(auto)]
 
+mod range;
 mod solve;
+mod steps;
+mod support;
 
+pub use range::answer_unit_range;
 pub use solve::answer_unit_solve;
+pub use support::answer_unit_support;

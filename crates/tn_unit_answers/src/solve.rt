@@ -14,7 +14,7 @@ use tn_said::{Counts, Said};
 use tn_tree::solve_market;
 
 /// The ends of trades.
-fn ends_of(alloc: Global, trades: &[UnitTrade]) -> Result<TradeEnds, OutOfMemory>
+pub(crate) fn ends_of(alloc: Global, trades: &[UnitTrade]) -> Result<TradeEnds, OutOfMemory>
     ensures { IfOk result (λ ends. ends ≡ map unit_ends trades.now) }
 {
     let mut list = Vec::new(alloc);
