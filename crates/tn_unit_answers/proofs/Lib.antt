@@ -5,3 +5,6 @@ pub mod StepLemmas
 pub mod RangedLemmas
 pub mod SupportedLemmas
 pub mod KeptLemmas
+pub mod BundleLemmas
+pub mod JudgedLemmas
+pub mod CheckLemmas

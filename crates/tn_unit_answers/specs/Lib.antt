@@ -4,3 +4,6 @@ pub mod Steps
 pub mod Range
 pub mod Said
 pub mod Support
+pub mod Bundles
+pub mod Judged
+pub mod Check

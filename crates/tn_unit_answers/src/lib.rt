@@ -1,11 +1,15 @@
 //! The answers of the commands to documents whose trades have units.
 #![tactic(auto)]
 
+mod bundles;
+mod check;
+mod judged;
 mod range;
 mod solve;
 mod steps;
 mod support;
 
+pub use check::answer_unit_check;
 pub use range::answer_unit_range;
 pub use solve::answer_unit_solve;
 pub use support::answer_unit_support;
