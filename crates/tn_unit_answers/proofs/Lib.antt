@@ -8,3 +8,4 @@ pub mod KeptLemmas
 pub mod BundleLemmas
 pub mod JudgedLemmas
 pub mod CheckLemmas
+pub mod FirmLemmas

@@ -7,3 +7,4 @@ pub mod Support
 pub mod Bundles
 pub mod Judged
 pub mod Check
+pub mod Firms

@@ -3,6 +3,7 @@
 
 mod bundles;
 mod check;
+mod firms;
 mod judged;
 mod range;
 mod solve;
@@ -10,6 +11,7 @@ mod steps;
 mod support;
 
 pub use check::answer_unit_check;
+pub use firms::answer_unit_firms;
 pub use range::answer_unit_range;
 pub use solve::answer_unit_solve;
 pub use support::answer_unit_support;
