@@ -6,7 +6,7 @@ use Rattle.serde_json.specs.Data.{Data}
 use Rattle.serde_json.specs.Find.{get, as_number, as_u64}
 use Rattle.tn_model.specs.Limits.{limits_of}
 use Rattle.tn_model.specs.declared.limits.Limits.{Limits}
-use Rattle.tn_read_head.specs.Beside.{IsStop, Stop}
+use Rattle.tn_read_head.specs.Beside.{IsStop, Stop, with_names}
 use Rattle.tn_said.specs.declared.fault.FaultKind.TheVariants.{Shape}
 use Rattle.tn_said.specs.declared.place.PlaceStep.{PlaceStep}
 use Rattle.tn_read_shapes.specs.Reading.{◌>>=◌, wanted}
@@ -15,17 +15,30 @@ use Rattle.tn_read_head.specs.Refused.{Reads}
 use Rattle.tn_read_head.specs.declared.refusal.DocRefusal.{DocRefusal}
 use Rattle.tn_read_units.specs.Firms.{UnitDocument, document_of as unit_document_of}
 use Rattle.tn_read_units.specs.Limits.{unit_version}
-use Rattle.tn_read_units.proofs.LawLemmas.{document_leads, documents_named, faults_sayable as unit_faults_sayable}
-use Rattle.tn_file.specs.declared.asked.UnitAsked.{UnitAsked}
+use Rattle.tn_read_units.specs.Documents.{IsUnitDocument}
+use Rattle.tn_read_units.specs.Heads.{AreUnitTrades}
+use Rattle.tn_read_units.specs.Stops.{IsNamedDocument}
+use Rattle.tn_read_units.specs.Trades.{UnitTrades}
+use Rattle.tn_read_units.proofs.LawLemmas.{document_leads, documents_named, unit_document_stops}
+use Rattle.tn_read_unit_parts.specs.Arranged.{AreCountsOf, IsUnitArrangement, counts_on_of, unit_arrangement_of}
+use Rattle.tn_read_unit_parts.proofs.ArrangementLemmas.{counts_on_leads, counts_on_stop, unit_arrangement_leads, unit_arrangement_stops}
+use Rattle.tn_read_head.proofs.BesideLemmas.{leads_beside, stops_beside}
+use Rattle.tn_read_head.proofs.ListingStops.{AreNames, told_stop}
+use Rattle.tn_read_references.proofs.ToldLemmas.{IsTold, told_from_plain}
+use Rattle.tn_read_shapes.proofs.LeadLemmas.{Leads, leads_bind, leads_both, leads_ok}
+use Rattle.tn_read_shapes.proofs.StopLemmas.{Stops, stops_after, stops_bind, stops_ok}
+use Rattle.tn_said.specs.declared.said.Fault.{Fault}
+use Rattle.tn_file.specs.declared.command.UnitCommand.{UnitCommand}
 use Rattle.tn_file.specs.declared.command.Command.{Command}
+use Rattle.tn_file.specs.declared.command.Command.TheVariants.{Check, Firms, Judge, Range, Replay, Session, Solve, Support, Test}
 use Rattle.tn_file.specs.declared.command.Command.TheVariants.{Solve, Test}
 use Rattle.tn_file.specs.declared.document.ReadDocument.{ReadDocument}
-use Rattle.tn_file.specs.Asked.{unit_asked_by}
+use Rattle.tn_file.specs.Asked.{command_for, unit_command}
 use Rattle.tn_file.specs.Document.{DocumentData, document_of, reading_of}
 use Rattle.tn_file.specs.Json.{json_of}
-use Rattle.tn_file.specs.Laws.{DocumentsAreNetworks, FaultsAreSayable, IsAnyDocument, IsAnyDocumentOf, ReadingsAreNeverTooLong, SaysVersion, UnitsAreAVersionOfSome}
-use Rattle.tn_file.specs.Readings.{AnyDocument, network, units, answers_units, any_document_by, any_document_of, any_reading_of, as_network, as_units, says_units}
-use Rattle.tn_file.specs.Reads.{IsRead, any_view, unit_asked}
+use Rattle.tn_file.specs.Laws.{DocumentsAreNetworks, FaultsAreSayable, IsAnyDocument, IsAnyDocumentOf, IsUnitExtra, IsUnitsWith, ReadingsAreNeverTooLong, SaysVersion, UnitsAreAVersionOfSome}
+use Rattle.tn_file.specs.Readings.{AnyDocument, network, units, no_part, arranged, counts_on, answers_units, any_document_by, any_document_of, any_reading_of, as_network, says_units, unit_extra_of, units_of}
+use Rattle.tn_file.specs.Reads.{IsRead, any_view}
 use Rattle.tn_file.proofs.DocumentLeads.{networks_are_of_their_version}
 use Rattle.tn_file.proofs.DocumentStops.{network_faults_are_sayable}
 
@@ -60,7 +73,7 @@ pub network_read_for : (command : Command) (top : Data) → answers_units comman
 network_read_for command top none = read_by command top false (and_left (answers_units command) (says_units top) none)
 
 pub units_read : (command : Command) (top : Data) → answers_units command ≡ true → says_units top ≡ true
-    → any_document_of command top ≡ as_units (unit_document_of top)
+    → any_document_of command top ≡ units_of command top
 units_read command top answers says =
     read_by command top true (and_from (answers_units command) (says_units top) answers says)
 
@@ -113,6 +126,84 @@ networks_read command bytes doc reads =
     ∙ network_read command says.top (says_another _ of.document.version of.document.limits says.says of.document.limits_are)
     ∙ ap as_network (sym (reading_as command bytes says.top says.stands) ∙ reads)
 
+-- ---- where trades have units
+
+-- one of these documents, with what is read beside it
+abbrev IsOfUnits : AnyDocument → Type 0
+IsOfUnits (network doc) = ⊥
+IsOfUnits (units doc extra) = IsUnitsWith doc extra
+
+abbrev IsNamedNetwork : UnitDocument → Type 0
+IsNamedNetwork doc = IsUnitDocument doc × IsNamedDocument doc
+
+named_lead : (top : Data) → Leads IsNamedNetwork (unit_document_of top)
+named_lead top =
+    leads_both IsUnitDocument IsNamedDocument (unit_document_of top) (document_leads top)
+    (record { at = documents_named top })
+
+module _ (head : UnitTrades) (kept : AreUnitTrades head) (top : Data) where
+  extra_leads : (command : Command) → Leads (IsUnitExtra head.trades) (unit_extra_of command head top)
+  unfolding unit_extra_of
+  extra_leads Check =
+      leads_bind (IsUnitArrangement head.trades) (IsUnitExtra head.trades) (unit_arrangement_of head top) _
+      (unit_arrangement_leads head kept.named kept.few top) (λ part is.
+      leads_ok (IsUnitExtra head.trades) (arranged part) is)
+  extra_leads Firms =
+      leads_bind (IsUnitArrangement head.trades) (IsUnitExtra head.trades) (unit_arrangement_of head top) _
+      (unit_arrangement_leads head kept.named kept.few top) (λ part is.
+      leads_ok (IsUnitExtra head.trades) (arranged part) is)
+  extra_leads Support =
+      leads_bind (AreCountsOf head.trades) (IsUnitExtra head.trades) (counts_on_of head top) _
+      (counts_on_leads head kept.named kept.few top) (λ counts are.
+      leads_ok (IsUnitExtra head.trades) (counts_on counts) are)
+  extra_leads Judge = leads_ok (IsUnitExtra head.trades) no_part tt
+  extra_leads Range = leads_ok (IsUnitExtra head.trades) no_part tt
+  extra_leads Replay = leads_ok (IsUnitExtra head.trades) no_part tt
+  extra_leads Session = leads_ok (IsUnitExtra head.trades) no_part tt
+  extra_leads Solve = leads_ok (IsUnitExtra head.trades) no_part tt
+  extra_leads Test = leads_ok (IsUnitExtra head.trades) no_part tt
+
+  abbrev Told : Fault → Type 0
+  Told = IsTold head.names.trades
+
+  extra_stops : (command : Command) → Stops Told (unit_extra_of command head top)
+  unfolding unit_extra_of
+  extra_stops Check =
+      stops_bind Told (unit_arrangement_of head top) _ (unit_arrangement_stops head kept.named kept.few top) (λ part.
+      stops_ok Told (arranged part))
+  extra_stops Firms =
+      stops_bind Told (unit_arrangement_of head top) _ (unit_arrangement_stops head kept.named kept.few top) (λ part.
+      stops_ok Told (arranged part))
+  extra_stops Support =
+      stops_bind Told (counts_on_of head top) _
+      (told_from_plain head.names.trades _ (counts_on_stop head kept.named kept.few top)) (λ counts.
+      stops_ok Told (counts_on counts))
+  extra_stops Judge = stops_ok Told no_part
+  extra_stops Range = stops_ok Told no_part
+  extra_stops Replay = stops_ok Told no_part
+  extra_stops Session = stops_ok Told no_part
+  extra_stops Solve = stops_ok Told no_part
+  extra_stops Test = stops_ok Told no_part
+
+units_lead : (command : Command) (top : Data) → Leads IsOfUnits (units_of command top)
+unfolding units_of
+units_lead command top =
+    leads_bind IsNamedNetwork IsOfUnits (unit_document_of top) _ (named_lead top) (λ doc are.
+    leads_bind (IsUnitExtra doc.head.trades) IsOfUnits (with_names doc.head.names (unit_extra_of command doc.head top)) _
+    (leads_beside (IsUnitExtra doc.head.trades) doc.head.names _ (extra_leads doc.head are.0.head top command)) (λ extra is.
+    leads_ok IsOfUnits (units doc extra) (record { network = are.0; named = are.1; beside = is })))
+
+units_stop : (command : Command) (top : Data) → Stops IsStop (units_of command top)
+unfolding units_of
+units_stop command top =
+    stops_after IsStop IsNamedNetwork (unit_document_of top) _ (named_lead top) (unit_document_stops top) (λ doc are.
+    let names = doc.head.names in
+    let named : AreNames names = record { firms = are.1.firm_names; trades = are.1.trade_names } in
+    stops_bind IsStop (with_names names (unit_extra_of command doc.head top)) _
+    (stops_beside IsStop (IsTold names.trades) names _ (told_stop names named)
+    (extra_stops doc.head are.0.head top command)) (λ extra.
+    stops_ok IsStop (units doc extra)))
+
 module _ (command : Command) (bytes : List ℕ) (top : Data) (stands : json_of bytes ≡ Some top) where
   from_network : (r : Result DocumentData Stop) → document_of command top ≡ r → (doc : AnyDocument)
       → as_network r ≡ Ok doc → IsAnyDocumentOf command bytes doc
@@ -122,18 +213,14 @@ module _ (command : Command) (bytes : List ℕ) (top : Data) (stands : json_of b
       (networks_are_of_their_version command bytes read (reading_as command bytes top stands ∙ is))
   from_network (Err stop) is doc same = absurd cc
 
-  from_units : says_units top ≡ true → (r : Result UnitDocument Stop) → unit_document_of top ≡ r → (doc : AnyDocument)
-      → as_units r ≡ Ok doc → IsAnyDocumentOf command bytes doc
-  from_units says (Ok read) is doc same =
-      let one : units read ≡ doc = cc in
-      subst (IsAnyDocumentOf command bytes) one
-      ((document_leads top).at read is, documents_named top read is, record { top = top; stands = stands; says = says_it _ says })
-  from_units says (Err stop) is doc same = absurd cc
+  of_units : says_units top ≡ true → (doc : AnyDocument) → IsOfUnits doc → IsAnyDocumentOf command bytes doc
+  of_units says (network doc) is = absurd is
+  of_units says (units doc extra) is = (is, record { top = top; stands = stands; says = says_it _ says })
 
   value_leads : (doc : AnyDocument) → any_document_of command top ≡ Ok doc → IsAnyDocumentOf command bytes doc
   value_leads doc reads = elim (cases_Bool (says_units top)) [
     | inl says ↦ elim (cases_Bool (answers_units command)) [
-      | inl answers ↦ from_units says (unit_document_of top) refl doc (sym (units_read command top answers says) ∙ reads)
+      | inl answers ↦ of_units says doc ((units_lead command top).at doc (sym (units_read command top answers says) ∙ reads))
       | inr silent ↦ from_network (document_of command top) refl doc (sym (network_read_for command top silent) ∙ reads)
     ]
     | inr none ↦ from_network (document_of command top) refl doc (sym (network_read command top none) ∙ reads)
@@ -146,16 +233,10 @@ module _ (command : Command) (bytes : List ℕ) (top : Data) (stands : json_of b
       let one : first ≡ stop = cc in
       subst IsStop one (network_faults_are_sayable command bytes first (reading_as command bytes top stands ∙ is))
 
-  stop_of_units : (r : Result UnitDocument Stop) → unit_document_of top ≡ r → (stop : Stop) → as_units r ≡ Err stop
-      → IsStop stop
-  stop_of_units (Ok read) is stop same = absurd cc
-  stop_of_units (Err first) is stop same =
-      let one : first ≡ stop = cc in subst IsStop one (unit_faults_sayable top first is)
-
   value_stops : (stop : Stop) → any_document_of command top ≡ Err stop → IsStop stop
   value_stops stop reads = elim (cases_Bool (says_units top)) [
     | inl says ↦ elim (cases_Bool (answers_units command)) [
-      | inl answers ↦ stop_of_units (unit_document_of top) refl stop (sym (units_read command top answers says) ∙ reads)
+      | inl answers ↦ (units_stop command top).at stop (sym (units_read command top answers says) ∙ reads)
       | inr silent ↦ stop_of_network (document_of command top) refl stop
           (sym (network_read_for command top silent) ∙ reads)
     ]
@@ -205,7 +286,7 @@ readings_are_never_too_long command bytes stop reads = (faults_are_sayable comma
 any_document_is : (command : Command) (bytes : List ℕ) (doc : AnyDocument) → IsAnyDocumentOf command bytes doc
     → IsAnyDocument command doc
 any_document_is command bytes (network doc) is = is.document
-any_document_is command bytes (units doc) is = (is.0, is.1)
+any_document_is command bytes (units doc extra) is = is.0
 
 pub reads_from : (command : Command) (bytes : List ℕ) (r : Result ReadDocument DocRefusal)
     → Reads any_view r (any_reading_of command bytes) → IfOk r (IsRead command)
@@ -214,20 +295,34 @@ reads_from command bytes (Ok doc) reads =
 reads_from command bytes (Err refusal) reads = tt
 
 -- what a command asks about units
-pub asked_by : (command : Command) (asked : UnitAsked) → unit_asked command ≡ Some asked → unit_asked_by asked ≡ command
-asked_by Solve asked is = let one : UnitAsked.Solve ≡ asked = cc in ap unit_asked_by (sym one)
-asked_by Test asked is = let one : UnitAsked.Test ≡ asked = cc in ap unit_asked_by (sym one)
-asked_by command asked is = absurd cc
+pub asked_for : (command : Command) (asked : UnitCommand) → unit_command command ≡ Some asked → command_for asked ≡ command
+asked_for Judge asked is = absurd cc
+asked_for Replay asked is = absurd cc
+asked_for Session asked is = absurd cc
+asked_for Check asked is = let one : UnitCommand.Check ≡ asked = cc in ap command_for (sym one)
+asked_for Firms asked is = let one : UnitCommand.Firms ≡ asked = cc in ap command_for (sym one)
+asked_for Range asked is = let one : UnitCommand.Range ≡ asked = cc in ap command_for (sym one)
+asked_for Solve asked is = let one : UnitCommand.Solve ≡ asked = cc in ap command_for (sym one)
+asked_for Support asked is = let one : UnitCommand.Support ≡ asked = cc in ap command_for (sym one)
+asked_for Test asked is = let one : UnitCommand.Test ≡ asked = cc in ap command_for (sym one)
 
-pub asked_answers : (command : Command) (asked : UnitAsked) → unit_asked command ≡ Some asked → answers_units command ≡ true
+pub asked_answers : (command : Command) (asked : UnitCommand) → unit_command command ≡ Some asked
+    → answers_units command ≡ true
+asked_answers Judge asked is = absurd cc
+asked_answers Replay asked is = absurd cc
+asked_answers Session asked is = absurd cc
+asked_answers Check asked is = refl
+asked_answers Firms asked is = refl
+asked_answers Range asked is = refl
 asked_answers Solve asked is = refl
+asked_answers Support asked is = refl
 asked_answers Test asked is = refl
-asked_answers command asked is = absurd cc
 
-pub none_asked : (command : Command) → unit_asked command ≡ None → answers_units command ≡ false
-none_asked Solve is = absurd cc
-none_asked Test is = absurd cc
-none_asked command is = refl
+pub none_asked : (command : Command) → unit_command command ≡ None → answers_units command ≡ false
+none_asked Judge is = refl
+none_asked Replay is = refl
+none_asked Session is = refl
+none_asked command is = absurd cc
 
 -- to other commands the version of units is none
 pub units_refused : UnitsAreAVersionOfSome

@@ -17,11 +17,14 @@ use Rattle.tn_file.specs.declared.command.Command.{Command}
 use Rattle.tn_read_head.specs.Beside.{Stop, IsStop}
 use Rattle.tn_file.specs.Json.{json_of}
 use Rattle.tn_file.specs.Document.{DocumentData, ExtraData, nothing, arrangement, on_alone, outcome, edits, claim, is_accepted}
-use Rattle.tn_file.specs.Readings.{AnyDocument, network, units, answers_units, any_reading_of, no_such_version, says_units}
+use Rattle.tn_file.specs.Readings.{AnyDocument, UnitExtra, network, units, no_part, arranged, counts_on, answers_units, any_reading_of, no_such_version, says_units}
 use Rattle.tn_read_shapes.specs.Shapes.{object_of}
 use Rattle.tn_read_shapes.specs.declared.members.ObjectKind.TheVariants.{Top}
 use Rattle.tn_read_units.specs.Documents.{IsUnitDocument}
+use Rattle.tn_counts.specs.declared.trade.UnitTrade.{UnitTrade}
+use Rattle.tn_read_units.specs.Firms.{UnitDocument}
 use Rattle.tn_read_units.specs.Limits.{unit_version}
+use Rattle.tn_read_unit_parts.specs.Arranged.{AreCountsOf, IsUnitArrangement}
 use Rattle.tn_read_units.specs.Stops.{IsNamedDocument}
 use Rattle.tn_read_claims.specs.Laws.{KeepsClaimLimits}
 use Rattle.tn_read_firms.specs.Laws.{IsListedFirm}
@@ -80,15 +83,27 @@ pub record IsDocumentOf (command : Command) (bytes : List ℕ) (doc : DocumentDa
   pub document : IsDocument command doc
   pub version : SaysVersion bytes document.version
 
--- a document of any version: a network, or laminar firms between which trades have units, with their names
+-- counts within the units, and small prices
+abbrev pub IsUnitExtra : List UnitTrade → UnitExtra → Type 0
+IsUnitExtra trades no_part = Unit {0}
+IsUnitExtra trades (arranged part) = IsUnitArrangement trades part
+IsUnitExtra trades (counts_on counts) = AreCountsOf trades counts
+
+-- laminar firms between which trades have units, with their names, and what is read beside them
+pub record IsUnitsWith (doc : UnitDocument) (extra : UnitExtra) : Type 0 where
+  pub network : IsUnitDocument doc
+  pub named : IsNamedDocument doc
+  pub beside : IsUnitExtra doc.head.trades extra
+
+-- a document of any version: a network, or one whose trades have units
 abbrev pub IsAnyDocument : Command → AnyDocument → Type 0
 IsAnyDocument command (network doc) = IsDocument command doc
-IsAnyDocument command (units doc) = IsUnitDocument doc × IsNamedDocument doc
+IsAnyDocument command (units doc extra) = IsUnitsWith doc extra
 
 -- within the limits of the version that its bytes say
 abbrev pub IsAnyDocumentOf : Command → List ℕ → AnyDocument → Type 0
 IsAnyDocumentOf command bytes (network doc) = IsDocumentOf command bytes doc
-IsAnyDocumentOf command bytes (units doc) = IsUnitDocument doc × IsNamedDocument doc × SaysVersion bytes unit_version
+IsAnyDocumentOf command bytes (units doc extra) = IsUnitsWith doc extra × SaysVersion bytes unit_version
 
 -- every document that is read is one
 abbrev pub DocumentsAreNetworks : Type 0

@@ -7,46 +7,73 @@ use Rattle.tn_said.specs.declared.place.PlaceStep.TheVariants.{Key}
 use Rattle.tn_said.specs.declared.place.Word.TheVariants.{Version}
 use Rattle.tn_names.specs.Names.{NameLists, no_names}
 use Rattle.tn_file.specs.declared.command.Command.{Command}
-use Rattle.tn_file.specs.declared.command.Command.TheVariants.{Solve, Test}
+use Rattle.tn_file.specs.declared.command.Command.TheVariants.{Check, Firms, Judge, Replay, Session, Support}
 use Rattle.tn_read_head.specs.Beside.{Stop, with_names}
 use Rattle.tn_read_shapes.specs.Reading.{◌>>=◌, wanted}
 use Rattle.tn_read_units.specs.Firms.{UnitDocument, document_of as unit_document_of}
 use Rattle.tn_read_units.specs.Limits.{unit_version}
+use Rattle.tn_read_units.specs.Trades.{UnitTrades}
+use Rattle.tn_read_unit_parts.specs.Arranged.{UnitArranged, counts_on_of, unit_arrangement_of}
+use Rattle.tn_said.specs.declared.said.Fault.{Fault}
 use Rattle.tn_file.specs.Document.{DocumentData, document_of}
 use Rattle.tn_file.specs.Json.{json_of}
 
 -- whether a command answers documents whose trades have units; to another their version is none
 abbrev pub answers_units : Command → Bool
-answers_units Solve = true
-answers_units Test = true
-answers_units command = false
+answers_units Judge = false
+answers_units Replay = false
+answers_units Session = false
+answers_units command = true
 
 -- whether a value says the version of documents whose trades have units
 abbrev pub says_units : Data → Bool
 says_units top = unwrap_or (option_map (λ version. version == unit_version) (option_and_then as_u64
     (option_and_then as_number (get (codes "version") top)))) false
 
--- a document of single trades, or one of trades that have units
+-- what is read beside firms by counts
+pub data UnitExtra : Type 0 where
+  no_part : UnitExtra
+  arranged : UnitArranged → UnitExtra
+  -- how many units of each trade go alone
+  counts_on : List ℕ → UnitExtra
+
+-- what a command reads beside them
+unfoldable pub unit_extra_of : Command → UnitTrades → Data → Result UnitExtra Fault
+unit_extra_of Check head top = do
+  part ← unit_arrangement_of head top
+  Ok (arranged part)
+unit_extra_of Firms head top = do
+  part ← unit_arrangement_of head top
+  Ok (arranged part)
+unit_extra_of Support head top = do
+  counts ← counts_on_of head top
+  Ok (counts_on counts)
+unit_extra_of command head top = Ok no_part
+
+-- a document of single trades, or one of trades that have units, with what is read beside its firms
 pub data AnyDocument : Type 0 where
   network : DocumentData → AnyDocument
-  units : UnitDocument → AnyDocument
+  units : UnitDocument → UnitExtra → AnyDocument
 
 abbrev pub names_in : AnyDocument → NameLists
 names_in (network doc) = doc.names
-names_in (units doc) = doc.head.names
+names_in (units doc extra) = doc.head.names
 
--- a reading of a network, and one of trades that have units, as one of any document
+-- a reading of a network as one of any document
 abbrev pub as_network : Result DocumentData Stop → Result AnyDocument Stop
 as_network (Ok doc) = Ok (network doc)
 as_network (Err stop) = Err stop
 
-abbrev pub as_units : Result UnitDocument Stop → Result AnyDocument Stop
-as_units (Ok doc) = Ok (units doc)
-as_units (Err stop) = Err stop
+-- what a value stands for whose trades have units
+unfoldable pub units_of : Command → Data → Result AnyDocument Stop
+units_of command top = do
+  doc ← unit_document_of top
+  extra ← with_names doc.head.names (unit_extra_of command doc.head top)
+  Ok (units doc extra)
 
 -- what a value stands for by whether it is read as one whose trades have units
 abbrev pub any_document_by : Bool → Command → Data → Result AnyDocument Stop
-any_document_by true command top = as_units (unit_document_of top)
+any_document_by true command top = units_of command top
 any_document_by false command top = as_network (document_of command top)
 
 abbrev pub any_document_of : Command → Data → Result AnyDocument Stop

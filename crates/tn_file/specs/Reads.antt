@@ -1,26 +1,17 @@
 -- What the reader returned of bytes whatever their version, against the reading.
-use Rattle.std.specs.Prelude.{◌≡◌, Option, None, Some}
-use Rattle.tn_file.specs.declared.asked.UnitAsked.{UnitAsked}
-use Rattle.tn_file.specs.declared.asked.UnitAsked.TheVariants.{Solve as UnitSolve, Test as UnitTest}
+use Rattle.std.specs.Prelude.{◌≡◌}
 use Rattle.tn_file.specs.declared.command.Command.{Command}
-use Rattle.tn_file.specs.declared.command.Command.TheVariants.{Solve, Test}
 use Rattle.tn_file.specs.declared.document.ReadDocument.{ReadDocument}
 use Rattle.tn_file.specs.declared.document.ReadDocument.TheVariants.{Network, Units}
-use Rattle.tn_file.specs.Asked.{unit_asked_by}
+use Rattle.tn_file.specs.Asked.{unit_asked_by, unit_part_of}
 use Rattle.tn_file.specs.Laws.{IsAnyDocument}
 use Rattle.tn_file.specs.Readings.{AnyDocument, network, units}
 use Rattle.tn_file.specs.Refusal.{IsMadeAsAccepted, command_of, document_view}
 
--- what a command asks about a document whose trades have units, none where it answers none
-abbrev pub unit_asked : Command → Option UnitAsked
-unit_asked Solve = Some UnitSolve
-unit_asked Test = Some UnitTest
-unit_asked command = None
-
 -- what a document that was read stands for
 abbrev pub any_view : ReadDocument → AnyDocument
 any_view (Network doc) = network (document_view doc)
-any_view (Units doc asked) = units doc
+any_view (Units doc asked) = units doc (unit_part_of asked)
 
 -- the command that a document was read for
 abbrev pub read_for : ReadDocument → Command

@@ -2,6 +2,7 @@
 
 use tn_base::TradeSet;
 use tn_market::{Arrangement, Outcome};
+use tn_read_unit_parts::UnitArrangement;
 use tn_said::{Edits, FirmClaim, MarketClaim};
 
 /// What is asked about firms that meet exchange, by its command.
@@ -35,10 +36,18 @@ pub enum RawAsked {
 }
 
 /// What is asked about firms by counts, of a document whose trades have units, by its command.
-#[derive(Clone, Copy)]
+#[derive(Drop)]
 pub enum UnitAsked {
+    /// Whether the counts and prices are an equilibrium.
+    Check(UnitArrangement),
+    /// What each firm has at these counts and prices.
+    Firms(UnitArrangement),
+    /// How far each price may move.
+    Range,
     /// An equilibrium.
     Solve,
+    /// Prices for these counts, by trade number.
+    Support(Vec<u32>),
     /// Whether they meet exchange.
     Test,
 }

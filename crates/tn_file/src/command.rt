@@ -25,3 +25,14 @@ pub enum Command {
     /// To test whether the firms meet the exchange property.
     Test,
 }
+
+/// What the program may be asked to do with a document whose trades have units.
+#[derive(Clone, Copy)]
+pub(crate) enum UnitCommand {
+    Check,
+    Firms,
+    Range,
+    Solve,
+    Support,
+    Test,
+}

@@ -5,13 +5,14 @@ ghost use Rattle.serde_json.specs.View.{view};
 ghost use Rattle.tn_said.specs.declared.fault.FaultKind.TheVariants.{NotJson};
 ghost use Rattle.tn_read_shapes.specs.Reading.{Gives, wanted};
 ghost use Rattle.tn_read_head.specs.Refused.{Reads};
+ghost use Rattle.tn_file.specs.Asked.{command_for, unit_asked_by, unit_command, unit_part_of};
 ghost use Rattle.tn_file.specs.Document.{document_of};
 ghost use Rattle.tn_file.specs.Json.{json_of};
-ghost use Rattle.tn_file.specs.Readings.{any_document_of, any_reading_of, as_network, says_units};
-ghost use Rattle.tn_file.specs.Reads.{IsRead, IsReadFor, any_view, unit_asked};
+ghost use Rattle.tn_file.specs.Readings.{any_document_of, any_reading_of, as_network, says_units, unit_extra_of, units_of};
+ghost use Rattle.tn_file.specs.Reads.{IsRead, IsReadFor, any_view};
 
 use crate::asked::UnitAsked;
-use crate::command::Command;
+use crate::command::{Command, UnitCommand};
 use crate::document::ReadDocument;
 use crate::network::read_document;
 use serde_json::Value;
@@ -19,7 +20,8 @@ use std::alloc::Global;
 use tn_names::Names;
 use tn_read_head::DocRefusal;
 use tn_read_shapes::{ReadError, fault, member};
-use tn_read_units::read_unit_document;
+use tn_read_unit_parts::{read_counts_on, read_unit_arrangement};
+use tn_read_units::{UnitHead, read_unit_document};
 use tn_said::{FaultKind, Word};
 
 /// The version of documents whose trades have units.
@@ -54,7 +56,7 @@ fn read_value(alloc: Global, command: Command, top: &Value) -> Result<ReadDocume
     ensures exact { Reads any_view result (any_document_of command (view top.now)) }
     ensures needed { IfOk result (IsReadFor command) }
 {
-    match unit_asked(command) {
+    match unit_command(command) {
         Some(asked) => read_asked(alloc, command, asked, top),
         None => read_network(alloc, command, top),
     }
@@ -64,15 +66,15 @@ fn read_value(alloc: Global, command: Command, top: &Value) -> Result<ReadDocume
 fn read_asked(
     alloc: Global,
     command: Command,
-    asked: UnitAsked,
+    asked: UnitCommand,
     top: &Value,
 ) -> Result<ReadDocument, DocRefusal>
-    requires { unit_asked command ≡ Some asked }
+    requires { unit_command command ≡ Some asked }
     ensures exact { Reads any_view result (any_document_of command (view top.now)) }
     ensures needed { IfOk result (IsReadFor command) }
 {
     if says_units(top) {
-        Ok(ReadDocument::Units(read_unit_document(alloc, top)?, asked))
+        read_units(alloc, asked, top)
     } else {
         read_network(alloc, command, top)
     }
@@ -86,20 +88,52 @@ fn read_network(alloc: Global, command: Command, top: &Value) -> Result<ReadDocu
     Ok(ReadDocument::Network(read_document(alloc, command, top)?))
 }
 
+/// Reads a document whose trades have units, and what is asked about its firms.
+#[tactic(auto, unfolding(crate::specs::Readings::units_of))]
+fn read_units(alloc: Global, asked: UnitCommand, top: &Value) -> Result<ReadDocument, DocRefusal>
+    ensures exact { Reads any_view result (units_of (command_for asked) (view top.now)) }
+    ensures needed { IfOk result (IsReadFor (command_for asked)) }
+{
+    let doc = read_unit_document(alloc, top)?;
+    match read_unit_part(alloc, asked, doc.head(), top) {
+        Ok(asked) => Ok(ReadDocument::Units(doc, asked)),
+        Err(error) => Err(DocRefusal::beside(error, doc.into_names())),
+    }
+}
+
+/// What is asked about firms by counts, with the part of the document that this speaks of.
+#[tactic(auto, unfolding(crate::specs::Readings::unit_extra_of))]
+fn read_unit_part(
+    alloc: Global,
+    asked: UnitCommand,
+    head: &UnitHead,
+    top: &Value,
+) -> Result<UnitAsked, ReadError>
+    ensures gives { Gives unit_part_of result (unit_extra_of (command_for asked) head.now (view top.now)) }
+    ensures asked { IfOk result (λ part. unit_asked_by part ≡ command_for asked) }
+{
+    match asked {
+        UnitCommand::Check => Ok(UnitAsked::Check(read_unit_arrangement(alloc, head, top)?)),
+        UnitCommand::Firms => Ok(UnitAsked::Firms(read_unit_arrangement(alloc, head, top)?)),
+        UnitCommand::Range => Ok(UnitAsked::Range),
+        UnitCommand::Solve => Ok(UnitAsked::Solve),
+        UnitCommand::Support => Ok(UnitAsked::Support(read_counts_on(alloc, head, top)?)),
+        UnitCommand::Test => Ok(UnitAsked::Test),
+    }
+}
+
 /// What a command asks about a document whose trades have units, none where it answers none.
-fn unit_asked(command: Command) -> Option<UnitAsked>
-    ensures { result ≡ unit_asked command }
+fn unit_command(command: Command) -> Option<UnitCommand>
+    ensures { result ≡ unit_command command }
 {
     match command {
-        Command::Solve => Some(UnitAsked::Solve),
-        Command::Test => Some(UnitAsked::Test),
-        Command::Check
-        | Command::Firms
-        | Command::Judge
-        | Command::Range
-        | Command::Replay
-        | Command::Session
-        | Command::Support => None,
+        Command::Check => Some(UnitCommand::Check),
+        Command::Firms => Some(UnitCommand::Firms),
+        Command::Range => Some(UnitCommand::Range),
+        Command::Solve => Some(UnitCommand::Solve),
+        Command::Support => Some(UnitCommand::Support),
+        Command::Test => Some(UnitCommand::Test),
+        Command::Judge | Command::Replay | Command::Session => None,
     }
 }
 

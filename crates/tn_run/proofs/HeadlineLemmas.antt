@@ -24,11 +24,11 @@ kept_or_shown command bytes (Err stop) names said headlined reads answer =
     inr (record { stop = stop; reads = reads; said_is = answer.0 })
 kept_or_shown Solve bytes (Ok (network doc)) names said headlined reads answer =
     inl (record { doc = network doc; reads = reads; promised = answer.0 })
-kept_or_shown Solve bytes (Ok (units doc)) names said headlined reads answer =
-    inl (record { doc = units doc; reads = reads; promised = answer.0 })
+kept_or_shown Solve bytes (Ok (units doc extra)) names said headlined reads answer =
+    inl (record { doc = units doc extra; reads = reads; promised = answer.0 })
 kept_or_shown Judge bytes (Ok (network doc)) names said headlined reads answer =
     inl (record { doc = network doc; reads = reads; promised = answer.0 })
-kept_or_shown Judge bytes (Ok (units doc)) names said headlined reads answer = absurd answer.0
+kept_or_shown Judge bytes (Ok (units doc extra)) names said headlined reads answer = absurd answer.0
 kept_or_shown Check bytes (Ok doc) names said headlined reads answer = absurd (true≢false (sym headlined))
 kept_or_shown Firms bytes (Ok doc) names said headlined reads answer = absurd (true≢false (sym headlined))
 kept_or_shown Range bytes (Ok doc) names said headlined reads answer = absurd (true≢false (sym headlined))

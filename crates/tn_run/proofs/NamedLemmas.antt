@@ -379,7 +379,7 @@ document_kept command doc is said answer within = record {
 any_kept : (command : Command) (doc : AnyDocument) → IsAnyDocument command doc → (said : Said)
     → IsAnyAnswerOf command doc said → IsWithinClaims said → KeepsRules (names_in doc) said
 any_kept command (network doc) is said answer within = document_kept command doc is said answer within
-any_kept command (units doc) is said answer within = unit_kept doc command is said answer within
+any_kept command (units doc extra) is said answer within = unit_kept doc extra is command said answer within
 
 module _ {E : Type 0} (command : Command) (doc : ReadDocument) (result : Result (Said × NameLists) E) where
   -- what answers the command that the document was read for

@@ -1,74 +1,93 @@
 -- What is said of a document whose trades have units keeps the rules of answers.
-use Rattle.std.proofs.Common.{map, sym, subst, ◌∙◌}
-use Rattle.std.proofs.lemmas.List.{length-map}
-use Rattle.std.proofs.lemmas.List.Elements.{All-map}
-use Rattle.tn_model.specs.declared.ends.Ends.{Ends}
+use Rattle.std.proofs.Common.{sym, subst}
 use Rattle.tn_said.specs.declared.said.Fault.{Fault as FaultIs}
 use Rattle.tn_said.specs.declared.said.Said.{Said}
-use Rattle.tn_said.specs.declared.said.Said.TheVariants.{Fault, SolvedByCounts}
-use Rattle.tn_answer.specs.Apart.{AreNamedEnds, HasShortNumbers, IsNamedAnswer}
+use Rattle.tn_said.specs.declared.said.Said.TheVariants.{Fault}
+use Rattle.tn_answer.specs.Apart.{HasShortNumbers, IsNamedAnswer}
 use Rattle.tn_answer.specs.Kept.{HasAscendingTrades, IsWithinClaims}
 use Rattle.tn_answer.proofs.LawLemmas.{within_sayable}
 use Rattle.tn_file.specs.declared.command.Command.{Command}
-use Rattle.tn_file.specs.declared.command.Command.TheVariants.{Solve, Test}
-use Rattle.tn_file.specs.Laws.{IsAnyDocument}
-use Rattle.tn_file.specs.Readings.{units}
-use Rattle.tn_names.specs.Named.{IsNamed}
-use Rattle.tn_read_units.specs.Documents.{IsUnitDocument}
+use Rattle.tn_file.specs.declared.command.Command.TheVariants.{Check, Firms, Range, Solve, Support, Test}
+use Rattle.tn_file.specs.Laws.{IsUnitExtra, IsUnitsWith}
+use Rattle.tn_file.specs.Readings.{UnitExtra, arranged, counts_on}
 use Rattle.tn_read_units.specs.Firms.{UnitDocument}
-use Rattle.tn_run.specs.Answer.{IsUnitAnswerOf, KeepsRules}
-use Rattle.tn_unit_answers.specs.Solve.{unit_ends}
+use Rattle.tn_run.specs.Answer.{ChecksUnits, HoldsUnits, IsUnitAnswerOf, KeepsRules, SupportsUnits}
+use Rattle.tn_unit_answers.proofs.KeptLemmas.{ascends_range, ascends_solve, ascends_support, named_range, named_solve, named_support}
+use Rattle.tn_unit_answers.proofs.CheckLemmas.{check_ascends, check_named}
+use Rattle.tn_unit_answers.proofs.FirmLemmas.{firms_ascend, firms_named}
 
 -- no answer to one is a fault
-no_fault : (command : Command) (doc : UnitDocument) (fault : FaultIs) → IsUnitAnswerOf command doc (Fault fault) → ⊥
-no_fault Solve doc fault answer = answer
-no_fault Test doc fault answer = cc
-no_fault command doc fault answer = answer
+no_fault : (command : Command) (doc : UnitDocument) (extra : UnitExtra) (fault : FaultIs)
+    → IsUnitAnswerOf command doc extra (Fault fault) → ⊥
+no_fault Check doc (arranged at) fault answer = answer
+no_fault Check doc extra fault answer = answer
+no_fault Firms doc (arranged at) fault answer = answer
+no_fault Firms doc extra fault answer = answer
+no_fault Range doc extra fault answer = answer
+no_fault Solve doc extra fault answer = answer
+no_fault Support doc (counts_on counts) fault answer = answer
+no_fault Support doc extra fault answer = answer
+no_fault Test doc extra fault answer = cc
+no_fault command doc extra fault answer = answer
 
--- the ends of its trades have names
-named_ends : (doc : UnitDocument) → IsUnitDocument doc → AreNamedEnds doc.head.names (map unit_ends doc.head.trades)
-named_ends doc is =
-    let firms = doc.head.names.firms in
-    let each = is.head.each in
-    record {
-      one_each = length-map doc.head.trades unit_ends ∙ sym is.head.named;
-      sellers = All-map (λ (trade : Ends). IsNamed firms trade.seller) unit_ends doc.head.trades
-          (λ t d below. (each t d below).between.seller);
-      buyers = All-map (λ (trade : Ends). IsNamed firms trade.buyer) unit_ends doc.head.trades
-          (λ t d below. (each t d below).between.buyer);
-    }
+module _ (doc : UnitDocument) (extra : UnitExtra) (is : IsUnitsWith doc extra) where
+  named : (command : Command) (said : Said) → IsUnitAnswerOf command doc extra said → IsNamedAnswer doc.head.names said
+  named Check said answer = by_extra extra answer
+    where
+      by_extra : (extra : UnitExtra) → ChecksUnits doc extra said → IsNamedAnswer doc.head.names said
+      by_extra (arranged at) checks = check_named doc at.counts at.prices said is.network checks
+      by_extra extra checks = absurd checks
+  named Firms said answer = by_extra extra answer
+    where
+      by_extra : (extra : UnitExtra) → HoldsUnits doc extra said → IsNamedAnswer doc.head.names said
+      by_extra (arranged at) holds = firms_named doc at.counts at.prices said is.network holds
+      by_extra extra holds = absurd holds
+  named Range said answer = named_range doc is.network said answer
+  named Solve said answer = named_solve doc is.network said answer
+  named Support said answer = by_extra extra is.beside answer
+    where
+      by_extra : (extra : UnitExtra) → IsUnitExtra doc.head.trades extra → SupportsUnits doc extra said
+          → IsNamedAnswer doc.head.names said
+      by_extra (counts_on counts) are supports = named_support doc is.network counts are.counted said supports
+      by_extra extra are supports = absurd supports
+  named Test said answer = subst (IsNamedAnswer doc.head.names) (sym answer) tt
+  named command said answer = absurd answer
 
-module _ (doc : UnitDocument) where
-  named : (command : Command) → IsAnyDocument command (units doc) → (said : Said) → IsUnitAnswerOf command doc said
-      → IsNamedAnswer doc.head.names said
-  named Solve is (SolvedByCounts counts prices surplus ends) answer = (
-    answer.counted ∙ sym is.0.head.named,
-    answer.priced ∙ sym is.0.head.named,
-    subst (AreNamedEnds doc.head.names) (sym answer.ended) (named_ends doc is.0),
-  )
-  named Solve is said answer = absurd answer
-  named Test is said answer = subst (IsNamedAnswer doc.head.names) (sym answer) tt
-  named command is said answer = absurd answer
-
-  ascends : (command : Command) (said : Said) → IsUnitAnswerOf command doc said → HasAscendingTrades said
-  ascends Solve (SolvedByCounts counts prices surplus ends) answer = tt
-  ascends Solve said answer = absurd answer
+  ascends : (command : Command) (said : Said) → IsUnitAnswerOf command doc extra said → HasAscendingTrades said
+  ascends Check said answer = by_extra extra answer
+    where
+      by_extra : (extra : UnitExtra) → ChecksUnits doc extra said → HasAscendingTrades said
+      by_extra (arranged at) checks = check_ascends doc at.counts at.prices said is.network checks
+      by_extra extra checks = absurd checks
+  ascends Firms said answer = by_extra extra answer
+    where
+      by_extra : (extra : UnitExtra) → HoldsUnits doc extra said → HasAscendingTrades said
+      by_extra (arranged at) holds = firms_ascend doc at.counts at.prices said is.network holds
+      by_extra extra holds = absurd holds
+  ascends Range said answer = ascends_range doc said answer
+  ascends Solve said answer = ascends_solve doc said answer
+  ascends Support said answer = by_extra extra answer
+    where
+      by_extra : (extra : UnitExtra) → SupportsUnits doc extra said → HasAscendingTrades said
+      by_extra (counts_on counts) supports = ascends_support doc counts said supports
+      by_extra extra supports = absurd supports
   ascends Test said answer = subst HasAscendingTrades (sym answer) tt
   ascends command said answer = absurd answer
 
-  short : (command : Command) (said : Said) → IsUnitAnswerOf command doc said → IsWithinClaims said
+  short : (command : Command) (said : Said) → IsUnitAnswerOf command doc extra said → IsWithinClaims said
       → HasShortNumbers said
-  short command (Fault fault) answer within = absurd (no_fault command doc fault answer)
+  short command (Fault fault) answer within = absurd (no_fault command doc extra fault answer)
   short command said answer within = within_sayable said within
 
-  pub unit_kept : (command : Command) → IsAnyDocument command (units doc) → (said : Said)
-      → IsUnitAnswerOf command doc said → IsWithinClaims said → KeepsRules doc.head.names said
-  unit_kept command is said answer within = record {
-    named = named command is said answer;
+  pub unit_kept : (command : Command) (said : Said) → IsUnitAnswerOf command doc extra said → IsWithinClaims said
+      → KeepsRules doc.head.names said
+  unit_kept command said answer within = record {
+    named = named command said answer;
     short = short command said answer within;
     within = within;
     ascending = ascends command said answer;
-    not_too_long = λ fault same. absurd (no_fault command doc fault (subst (IsUnitAnswerOf command doc) same answer));
-    firm_names = is.1.firm_names;
-    trade_names = is.1.trade_names;
+    not_too_long = λ fault same. absurd (no_fault command doc extra fault
+        (subst (IsUnitAnswerOf command doc extra) same answer));
+    firm_names = is.named.firm_names;
+    trade_names = is.named.trade_names;
   }

@@ -14,7 +14,7 @@ use Rattle.tn_answer.specs.Kept.{HasAscendingTrades, IsWithinClaims}
 use Rattle.tn_names.specs.Names.{NameLists, IsNameList}
 use Rattle.tn_read_head.specs.Beside.{Stop}
 use Rattle.tn_file.specs.Document.{DocumentData, ExtraData, arrangement, on_alone, outcome, edits, claim}
-use Rattle.tn_file.specs.Readings.{AnyDocument, network, units, any_reading_of, names_in}
+use Rattle.tn_file.specs.Readings.{AnyDocument, UnitExtra, network, units, arranged, counts_on, any_reading_of, names_in}
 use Rattle.tn_file.specs.declared.command.Command.{Command}
 use Rattle.tn_file.specs.declared.command.Command.TheVariants.{Check, Firms, Judge, Range, Replay, Session, Solve, Support, Test}
 use Rattle.tn_commands.specs.Implied.{IsEfficientAndStable}
@@ -27,7 +27,11 @@ use Rattle.tn_commands.specs.Support.{SupportsSet}
 use Rattle.tn_raw_answers.specs.Firms.{TellsHoldings}
 use Rattle.tn_raw_answers.specs.Test.{Tests}
 use Rattle.tn_read_units.specs.Firms.{UnitDocument}
+use Rattle.tn_unit_answers.specs.Check.{ChecksByCounts}
+use Rattle.tn_unit_answers.specs.Firms.{TellsHoldingsByCounts}
+use Rattle.tn_unit_answers.specs.Range.{TellsRangesByCounts}
 use Rattle.tn_unit_answers.specs.Solve.{SolvesByCounts}
+use Rattle.tn_unit_answers.specs.Support.{SupportsCounts}
 
 -- how many bytes a document may have
 abbrev pub document_limit : ℕ
@@ -76,16 +80,35 @@ IsAnswerOf Solve doc said = Solves doc.firms doc.ends said
 IsAnswerOf Support doc said = SupportsExtra doc doc.extra said
 IsAnswerOf Test doc said = Tests doc.firms doc.ends said
 
+-- the verdict on the arrangement of a document whose trades have units
+abbrev pub ChecksUnits : UnitDocument → UnitExtra → Said → Type 0
+ChecksUnits doc (arranged at) said = ChecksByCounts doc at.counts at.prices said
+ChecksUnits doc extra said = ⊥
+
+-- what each firm has in it
+abbrev pub HoldsUnits : UnitDocument → UnitExtra → Said → Type 0
+HoldsUnits doc (arranged at) said = TellsHoldingsByCounts doc at.counts at.prices said
+HoldsUnits doc extra said = ⊥
+
+-- prices for its counts
+abbrev pub SupportsUnits : UnitDocument → UnitExtra → Said → Type 0
+SupportsUnits doc (counts_on counts) said = SupportsCounts doc counts said
+SupportsUnits doc extra said = ⊥
+
 -- the defined answer of a command on a document whose trades have units; its firms are laminar, so they meet exchange
-abbrev pub IsUnitAnswerOf : Command → UnitDocument → Said → Type 0
-IsUnitAnswerOf Solve doc said = SolvesByCounts doc said
-IsUnitAnswerOf Test doc said = said ≡ Accepted
-IsUnitAnswerOf command doc said = ⊥
+abbrev pub IsUnitAnswerOf : Command → UnitDocument → UnitExtra → Said → Type 0
+IsUnitAnswerOf Check doc extra said = ChecksUnits doc extra said
+IsUnitAnswerOf Firms doc extra said = HoldsUnits doc extra said
+IsUnitAnswerOf Range doc extra said = TellsRangesByCounts doc said
+IsUnitAnswerOf Solve doc extra said = SolvesByCounts doc said
+IsUnitAnswerOf Support doc extra said = SupportsUnits doc extra said
+IsUnitAnswerOf Test doc extra said = said ≡ Accepted
+IsUnitAnswerOf command doc extra said = ⊥
 
 -- the defined answer of a command on a document of any version
 abbrev pub IsAnyAnswerOf : Command → AnyDocument → Said → Type 0
 IsAnyAnswerOf command (network doc) said = IsAnswerOf command doc said
-IsAnyAnswerOf command (units doc) said = IsUnitAnswerOf command doc said
+IsAnyAnswerOf command (units doc extra) said = IsUnitAnswerOf command doc extra said
 
 -- the defined answer where the bytes read so, over the names that are read
 abbrev pub IsAnswerTo : Command → Result AnyDocument Stop → NameLists → Said → Type 0

@@ -42,7 +42,7 @@ IsPromisedByCounts command doc said = ⊥
 
 abbrev pub IsAnyPromised : Command → AnyDocument → Said → Type 0
 IsAnyPromised command (network doc) said = IsPromised command doc said
-IsAnyPromised command (units doc) said = IsPromisedByCounts command doc said
+IsAnyPromised command (units doc extra) said = IsPromisedByCounts command doc said
 
 -- the bytes stand for a document, of which the answer is what is promised
 pub record KeepsPromise (command : Command) (bytes : List ℕ) (said : Said) : Type 0 where

@@ -4,8 +4,8 @@ ghost use Rattle.std.specs.Prelude.{◌≡◌, ◌≤◌, IfOk};
 ghost use Rattle.tn_answer.specs.Kept.{IsWithinClaims};
 ghost use Rattle.tn_file.specs.Readings.{any_reading_of, names_in};
 ghost use Rattle.tn_file.specs.Reads.{IsMade, IsRead, any_view, read_for};
-ghost use Rattle.tn_file.specs.Laws.{IsDocument};
-ghost use Rattle.tn_file.specs.Asked.{unit_asked_by};
+ghost use Rattle.tn_file.specs.Laws.{IsDocument, IsUnitExtra};
+ghost use Rattle.tn_file.specs.Asked.{unit_asked_by, unit_part_of};
 ghost use Rattle.tn_file.specs.Refusal.{IsMadeAsAccepted, command_of, document_view};
 ghost use Rattle.tn_run.specs.Answer.{IsAnswerOf, IsAnswerTo, IsAnyAnswerOf, IsUnitAnswerOf, KeepsRules, MayBeSaid, too_long};
 
@@ -23,7 +23,9 @@ use tn_io::{ReadStop, Source, read_all};
 use tn_raw_answers::{answer_firms, answer_replay_raw, answer_test};
 use tn_read_units::UnitDocument;
 use tn_said::{Fault, FaultKind, Place, Said};
-use tn_unit_answers::answer_unit_solve;
+use tn_unit_answers::{
+    answer_unit_check, answer_unit_firms, answer_unit_range, answer_unit_solve, answer_unit_support,
+};
 
 /// How many bytes a document may have.
 pub(crate) const DOCUMENT_LIMIT: usize = 4_194_304;
@@ -67,12 +69,17 @@ fn answer_network(alloc: Global, doc: Document) -> Result<(Said, Names), OutOfMe
 }
 
 /// The answer to what is asked about a document whose trades have units.
-fn answer_units(alloc: Global, doc: &UnitDocument, asked: UnitAsked) -> Result<Said, OutOfMemory>
-    ensures answer { IfOk result (IsUnitAnswerOf (unit_asked_by asked) doc.now) }
+fn answer_units(alloc: Global, doc: &UnitDocument, asked: &UnitAsked) -> Result<Said, OutOfMemory>
+    requires part { IsUnitExtra doc.now.head.trades (unit_part_of asked.now) }
+    ensures answer { IfOk result (IsUnitAnswerOf (unit_asked_by asked.now) doc.now (unit_part_of asked.now)) }
     ensures within { IfOk result IsWithinClaims }
 {
     match asked {
+        UnitAsked::Check(at) => answer_unit_check(alloc, doc, &at.counts, &at.prices),
+        UnitAsked::Firms(at) => answer_unit_firms(alloc, doc, &at.counts, &at.prices),
+        UnitAsked::Range => answer_unit_range(alloc, doc),
         UnitAsked::Solve => answer_unit_solve(alloc, doc),
+        UnitAsked::Support(counts) => answer_unit_support(alloc, doc, counts),
         // They are laminar.
         UnitAsked::Test => Ok(Said::Accepted),
     }
@@ -84,11 +91,13 @@ fn answer_by_counts(
     doc: UnitDocument,
     asked: UnitAsked,
 ) -> Result<(Said, Names), OutOfMemory>
-    ensures answer { IfOk result (λ told. IsUnitAnswerOf (unit_asked_by asked) doc told.0) }
+    requires part { IsUnitExtra doc.head.trades (unit_part_of asked) }
+    ensures answer { IfOk result (λ told. IsUnitAnswerOf (unit_asked_by asked) doc (unit_part_of asked) told.0) }
     ensures names { IfOk result (λ told. told.1 ≡ doc.head.names) }
     ensures within { IfOk result (λ told. IsWithinClaims told.0) }
 {
-    let said = answer_units(alloc, &doc, asked);
+    let said = answer_units(alloc, &doc, &asked);
+    drop(asked);
     let names = doc.into_names();
     Ok((said?, names))
 }

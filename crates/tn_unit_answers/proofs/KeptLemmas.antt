@@ -1,4 +1,4 @@
--- What `range` and `support` say keeps the rules of answers.
+-- What `solve`, `range` and `support` say keeps the rules of answers.
 use Rattle.std.proofs.Common.{◌≡◌, ℕ, ◌<◌, List, length, map, get_or, Option, Some, None, sym, subst, ◌∙◌, arith, ℤ}
 use Rattle.std.specs.Prelude.{All, IfSome}
 use Rattle.std.proofs.lemmas.List.{length-map}
@@ -11,14 +11,13 @@ use Rattle.tn_names.specs.Named.{IsNamed}
 use Rattle.tn_read_units.specs.Documents.{IsUnitDocument}
 use Rattle.tn_read_units.specs.Firms.{UnitDocument}
 use Rattle.tn_read_units.specs.Worths.{written_firms}
-use Rattle.tn_said.specs.declared.said.Fault.{Fault as FaultIs}
 use Rattle.tn_said.specs.declared.said.Said.{Said}
-use Rattle.tn_said.specs.declared.said.Said.TheVariants.{CycleByCounts, Fault, Impossible, RangesByCounts, SupportedByCounts}
+use Rattle.tn_said.specs.declared.said.Said.TheVariants.{CycleByCounts, Impossible, RangesByCounts, SolvedByCounts, SupportedByCounts}
 use Rattle.tn_said.specs.declared.units.UnitRange.{UnitRange}
 use Rattle.tn_said.specs.declared.units.UnitStep.{UnitStep}
 use Rattle.tn_tree.specs.Lists.{count_in}
 use Rattle.tn_unit_answers.specs.Range.{IsRangeOf, ShowsHigh, ShowsLow, TellsRangesByCounts}
-use Rattle.tn_unit_answers.specs.Solve.{unit_ends}
+use Rattle.tn_unit_answers.specs.Solve.{SolvesByCounts, unit_ends}
 use Rattle.tn_unit_answers.specs.Steps.{AreStepsOf}
 use Rattle.tn_unit_answers.specs.Support.{SupportsCounts}
 use Rattle.tn_unit_answers.proofs.SolutionLemmas.{firms_count}
@@ -65,6 +64,14 @@ module _ (doc : UnitDocument) (is : IsUnitDocument doc) where
     low = named_low t counts range.low range.low_path of.low_shown;
   }
 
+  pub named_solve : (said : Said) → SolvesByCounts doc said → IsNamedAnswer doc.head.names said
+  named_solve (SolvedByCounts counts prices surplus ends) answer = (
+    answer.counted ∙ sym is.head.named,
+    answer.priced ∙ sym is.head.named,
+    subst (AreNamedEnds doc.head.names) (sym answer.ended) named_ends,
+  )
+  named_solve said answer = absurd answer
+
   pub named_range : (said : Said) → TellsRangesByCounts doc said → IsNamedAnswer doc.head.names said
   named_range (RangesByCounts counts ranges ends) answer = (
     answer.0.counted ∙ sym is.head.named,
@@ -90,9 +97,13 @@ module _ (doc : UnitDocument) (is : IsUnitDocument doc) where
   named_support counts counted (CycleByCounts nodes cost) answer = named_steps nodes answer.0.known
   named_support counts counted said answer = absurd answer
 
--- ---- their lists ascend, and neither is a fault
+-- ---- their lists ascend
 
 module _ (doc : UnitDocument) where
+  pub ascends_solve : (said : Said) → SolvesByCounts doc said → HasAscendingTrades said
+  ascends_solve (SolvedByCounts counts prices surplus ends) answer = tt
+  ascends_solve said answer = absurd answer
+
   pub ascends_range : (said : Said) → TellsRangesByCounts doc said → HasAscendingTrades said
   ascends_range (RangesByCounts counts ranges ends) answer = tt
   ascends_range said answer = absurd answer
@@ -102,9 +113,3 @@ module _ (doc : UnitDocument) where
   ascends_support counts (SupportedByCounts listed prices ends) answer = tt
   ascends_support counts (CycleByCounts nodes cost) answer = tt
   ascends_support counts said answer = absurd answer
-
-  pub no_range_fault : (fault : FaultIs) → TellsRangesByCounts doc (Fault fault) → ⊥
-  no_range_fault fault answer = answer
-
-  pub no_support_fault : (counts : List ℕ) (fault : FaultIs) → SupportsCounts doc counts (Fault fault) → ⊥
-  no_support_fault counts fault answer = answer

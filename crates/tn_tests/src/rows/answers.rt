@@ -126,7 +126,7 @@ solve
 0 {"answer":"solved","on":["a"],"prices":[["a",1~6],["b",1~5]],"surplus":5}
 
 solve
-{"version":4,"firms":[{"name":"S","kind":"table","rows":[[["a"],-3]]},{"name":"B","kind":"table","rows":[[["a"],5]]}],"trades":[{"name":"a","seller":"S","buyer":"B"}]}
+{"version":5,"firms":[{"name":"S","kind":"table","rows":[[["a"],-3]]},{"name":"B","kind":"table","rows":[[["a"],5]]}],"trades":[{"name":"a","seller":"S","buyer":"B"}]}
 1 {"answer":"fault","fault":3,"name":"Shape","place":["version"]}
 
 support

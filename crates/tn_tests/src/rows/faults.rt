@@ -117,7 +117,7 @@ check
 1 {"answer":"fault","fault":3,"name":"Shape","place":["version"]}
 
 check
-{"version":4,"firms":[{"name":"S","kind":"table","rows":[[["a"],-3]]},{"name":"B","kind":"table","rows":[[["a"],5]]}],"trades":[{"name":"a","seller":"S","buyer":"B"}]}
+{"version":5,"firms":[{"name":"S","kind":"table","rows":[[["a"],-3]]},{"name":"B","kind":"table","rows":[[["a"],5]]}],"trades":[{"name":"a","seller":"S","buyer":"B"}]}
 1 {"answer":"fault","fault":3,"name":"Shape","place":["version"]}
 
 check
@@ -173,11 +173,11 @@ check
 1 {"answer":"fault","fault":3,"name":"Shape","place":["arrangement"]}
 
 check
-{"size":1,"version":4}
+{"size":1,"version":5}
 1 {"answer":"fault","fault":3,"name":"Shape","place":[]}
 
 check
-{"version":4,"firms":1,"trades":1}
+{"version":5,"firms":1,"trades":1}
 1 {"answer":"fault","fault":3,"name":"Shape","place":["version"]}
 
 check

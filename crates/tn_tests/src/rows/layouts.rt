@@ -72,4 +72,20 @@ solve --csv --csv
 
 cases --csv
 {"version":1,"firms":[{"name":"S","kind":"table","rows":[[["a"],-3]]},{"name":"B","kind":"table","rows":[[["a"],5]]}],"trades":[{"name":"a","seller":"S","buyer":"B"}],"arrangement":{"on":["a"],"prices":[["a",6]]}}
-2 {"answer":"usage"}"#;
+2 {"answer":"usage"}
+
+range --csv
+{"version":4,"firms":[{"name":"S","kind":"laminar","sets":[{"trades":["a"],"sold":[[10,-3]]}]},{"name":"B","kind":"laminar","amounts":[["a",5]]}],"trades":[{"name":"a","seller":"S","buyer":"B","units":20}]}
+0 trade,seller,buyer,on,low,high
+a,S,B,10,5,5
+
+support --csv
+{"version":4,"firms":[{"name":"S","kind":"laminar","sets":[{"trades":["a"],"sold":[[10,-3]]}]},{"name":"B","kind":"laminar","amounts":[["a",5]]}],"trades":[{"name":"a","seller":"S","buyer":"B","units":20}],"arrangement":{"on":[["a",10]]}}
+0 trade,seller,buyer,on,price
+a,S,B,10,5
+
+firms --csv
+{"version":4,"firms":[{"name":"S","kind":"laminar","sets":[{"trades":["a"],"sold":[[10,-3]]}]},{"name":"B","kind":"laminar","amounts":[["a",5]]}],"trades":[{"name":"a","seller":"S","buyer":"B","units":20}],"arrangement":{"on":[["a",10]],"prices":[["a",4]]}}
+6 firm,content,worth,utility,best_utility,gain,has,best
+S,1,-30,10,10,0,a:10,a:10
+B,0,50,10,20,10,a:10,a:20"#;

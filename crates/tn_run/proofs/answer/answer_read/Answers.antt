@@ -10,3 +10,8 @@ answer_network-requires-clause-document c =
 
 pub answer_network-requires-clause-made : goal.answer_network-requires-clause-made
 answer_network-requires-clause-made c = subst IsMade c.in-Network.is c.requires.made
+
+pub answer_by_counts-requires : goal.answer_by_counts-requires
+answer_by_counts-requires c = record {
+  part = (subst (λ (doc : ReadDocument). IsRead (read_for doc) doc) c.in-Units.is c.requires.document).beside;
+}
