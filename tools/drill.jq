@@ -9,7 +9,7 @@ $ARGS.named.units as $units
 # how many times the firms of a small network there are: a middleman has at most a quarter of each 240 trades
 | ([$size / 240 | ceil, 1] | max) as $times
 | def over($n): . / $n | floor;
-# (products stay below 2^53, up to which jq counts exactly: the multiplier is taken in two parts)
+# (a negative is written 0 - n, since jq writes the negative of 0 as -0, which is no whole number; products stay below 2^53, up to which jq counts exactly: the multiplier is taken in two parts)
 def next: (. * 16838 % 2147483648 * 65536 + . * 20077 + 12345) % 2147483648;
 # a number below $n, after what was drawn before
 def draw($n): .state |= next | .drawn += [.state | over(65536) % $n];
@@ -31,7 +31,7 @@ reduce range($size) as $i ({state: $start, trades: []};
     {kind: "laminar", amounts: ($own | map([.name, .numbers[$at]])), sets: [{trades: ($own | map(.name))}
       + if $units then {(if $from < 0 then "sold" else "bought" end): [[$units, -1], [$units, -3], [$units, -5]]} else {from: $from, values: $values} end]};
   def middleman($purchases; $sales):
-    if $units then {kind: "laminar", amounts: [($purchases[] | [.name, -.numbers[1]]), ($sales[] | [.name, .numbers[0]])],
+    if $units then {kind: "laminar", amounts: [($purchases[] | [.name, 0 - .numbers[1]]), ($sales[] | [.name, .numbers[0]])],
       sets: [{trades: ($purchases + $sales | map(.name))}, {trades: ($purchases | map(.name)), bought: [[$units, 0]]}]}
     else {kind: "middleman", costs: ($purchases | map([.name, .numbers[1]])), gains: ($sales | map([.name, .numbers[0]]))} end;
   {version: (if $units then 4 elif $size > 128 then 3 elif $size > 64 then 2 else 1 end),

@@ -20,7 +20,7 @@ def arc($from; $to; $cost): arc($from; $to; $cost; 1);
       (range($zero) | arc($set.parent; $node; $values[. + 1] - $values[.]));
   def steps($set): $set.node as $node
     | if $set.values then values($set)
-      else (($set.bought // [])[] | arc($node; $set.parent; -.[1]; .[0])), (($set.sold // [])[] | arc($set.parent; $node; -.[1]; .[0])) end;
+      else (($set.bought // [])[] | arc($node; $set.parent; 0 - .[1]; .[0])), (($set.sold // [])[] | arc($set.parent; $node; 0 - .[1]; .[0])) end;
   # of a firm: the node of each own trade, what the trade is worth by itself, the arcs within, and a constant
   def laminar:
     .name as $firm | (.amounts // []) as $amounts
@@ -31,7 +31,7 @@ def arc($from; $to; $cost): arc($from; $to; $cost; 1);
   def middleman:
     .name as $firm | . as $own
     | {ends: [sides[] | {key: .name, value:
-        (if .buyer == $firm then {node: "\($firm) in", worth: -(.name as $name | $own.costs // [] | amount($name))}
+        (if .buyer == $firm then {node: "\($firm) in", worth: (0 - (.name as $name | $own.costs // [] | amount($name)))}
          else {node: "\($firm) out", worth: (.name as $name | $own.gains // [] | amount($name))} end)}],
        arcs: [arc("\($firm) in"; "\($firm) out"; 0), (.keep | values | arc("\($firm) out"; "ground"; 0 - .))], constant: 0};
   def dealer:
@@ -41,7 +41,7 @@ def arc($from; $to; $cost): arc($from; $to; $cost; 1);
   [.firms[] | if .kind == "laminar" then laminar elif .kind == "middleman" then middleman elif .kind == "dealer" then dealer
               else error("\(.name) is a table, which is no flow") end + {name}] as $parts
 | ($parts | map({(.name): (.ends | from_entries)}) | add // {}) as $ends
-| [($trades[] | $ends[.seller][.name] as $sale | $ends[.buyer][.name] as $purchase | arc($sale.node; $purchase.node; -($sale.worth + $purchase.worth); .units // 1)),
+| [($trades[] | $ends[.seller][.name] as $sale | $ends[.buyer][.name] as $purchase | arc($sale.node; $purchase.node; 0 - ($sale.worth + $purchase.worth); .units // 1)),
    $parts[].arcs[]] as $arcs
 | ([$arcs[] | .from, .to] + ["ground"] | unique | to_entries | map({(.value): (.key + 1)}) | add) as $number
 | "c constant \([$parts[].constant] | add // 0)",

@@ -19,7 +19,7 @@ reduce range(3) as $p ({state: ($start | next), drawn: [], trades: [], firms: []
 | .trades as $trades | .firms as $drawn
 | def from($name): [$trades[] | select(.seller == $name)];
   def to($name): [$trades[] | select(.buyer == $name)];
-  def freight: map([.name, -.cost]);
+  def freight: map([.name, 0 - .cost]);
   def names: map(.name);
   {version: 4,
    firms: (
