@@ -37,6 +37,8 @@ UNIT_SHAPES: dict[str, dict[str, Any]] = {
     "set": {"needs": {"trades": "bundle"},
             "may": {"bought": "steps", "sold": "steps", "from": "number", "values": "numbers"}},
     "steps": {"each": "step"}, "step": {"items": ["number", "number"]},
+    "arrangement": {"needs": {"on": "counts", "prices": "entries"}},
+    "counts": {"each": "count"}, "count": {"items": ["trade_name", "number"]},
 }
 
 CLAIMED: dict[str, dict[str, str]] = {
@@ -52,15 +54,16 @@ CLAIMED: dict[str, dict[str, str]] = {
 WORDS: dict[str, list[str]] = {"version": ["1", "2", "3", "4"], "kind": ["table", "laminar", "middleman", "dealer"],
          "unit_kind": ["laminar"], "deed": ["admit", "bar", "leave", "join"], "answer": list(CLAIMED)}
 
-_FEW: dict[str, int] = {"own": 32, "farthest": 32, "values": 65, "edits": 256, "amount": 10 ** 9, "over": 10 ** 5}
+_FEW: dict[str, int] = {"own": 32, "farthest": 32, "values": 65, "edits": 256, "amount": 10 ** 9, "price": 10 ** 14,
+                        "over": 10 ** 5}
 
 LIMITS: dict[str, dict[str, int]] = {"1": {"most": 64, **_FEW}, "2": {"most": 128, **_FEW},
           "3": {"most": 1024, "own": 60, "farthest": 60, "values": 121, "edits": 2048, "amount": 10 ** 7,
-                "over": 10 ** 6}}
+                "price": 10 ** 14, "over": 10 ** 6}}
 
 UNIT_VERSION = "4"
 UNIT_LIMITS: dict[str, int] = {"most": 1024, "trades": 4096, "sets": 4096, "units": 1048576, "holding": 16, "steps": 256,
-                               "farthest": 256, "values": 513, "amount": 10 ** 7}
+                               "farthest": 256, "values": 513, "amount": 10 ** 7, "price": 2 * 10 ** 11}
 
 # The limits by the member, or the kind of firm, that has them: a part of LIMITS and how much more, or one for all versions.
 Bound = Union[int, tuple[str, int]]
@@ -86,7 +89,7 @@ TEXTS: dict[str, Any] = {
     "shape.wrong_near": "Here {wanted} is wanted, not {found}; did you mean {near}?",
     "shape.minus_zero": "Here a whole number is wanted, and `-0` is none; write `0`.",
     "shape.too_large": "Here a whole number is wanted that fits 64 bits with a sign, not {number}.",
-    "shape.no_units": "In version 4 trades have units, and only `solve` and `test` answer such a document.",
+    "shape.no_units": "In version 4 trades have units, and `judge`, `session` and `replay` don't answer such a document.",
     "shape.form": "A set has `bought` and `sold`, or `from` with `values`; this one has {members}.",
     "thing.document": "a document", "thing.firm": "a firm", "thing.table": "a table", "thing.laminar": "a laminar firm",
     "thing.middleman": "a middleman", "thing.dealer": "a dealer", "thing.trade": "a trade", "thing.set": "a set",
@@ -95,6 +98,8 @@ TEXTS: dict[str, Any] = {
     "wanted.object": "an object", "wanted.version": "one of the versions {words}",
     "wanted.kind": "one of the kinds {words}", "wanted.unit_kind": "the kind {words}",
     "wanted.steps": "a list of steps", "wanted.step": "a list of two, how many units and what each adds",
+    "wanted.counts": "a list of trades with their units",
+    "wanted.count": "a list of two, the name of a trade and how many units go",
     "wanted.deed": "one of the edits {words}",
     "wanted.answer": "one of the answers {words}", "wanted.firms": "a list of firms",
     "wanted.trades": "a list of trades", "wanted.rows": "a list of rows",
@@ -201,7 +206,8 @@ TEXTS: dict[str, Any] = {
         "{most} in size.",
     "beyond.units": "{value} is out of range; a trade has 1 to {most} units.",
     "beyond.step_units": "{value} is out of range; a step has 1 to {most} units.",
-    "beyond.price": "{value} is out of range; a price is at most 100,000,000,000,000 in size.",
+    "beyond.count": "{value} is out of range; of {trade} from 0 to {most} units go.",
+    "beyond.price": "{value} is out of range; a price is at most {most} in size.",
     "beyond.numerator": "{value} is out of range; the numerator of a price is at most 100,000,000,000 in size.",
     "beyond.claim": "{value} is out of range; a number of a claim is at most 1,000,000,000,000,000,000 in size.",
     "beyond.weight": "{value} is out of range; the weight of a part is from 1 to {most}.",

@@ -470,8 +470,18 @@ def _range_line(network: _Network, place: list[Any], number: str) -> str:
         return _say("beyond.amount", value=value, version=network.version, most=_large(network.limits["amount"]))
     if part == "claim" and place[1] == "plan":
         return _say("beyond.weight", value=value, most=_large(network.limits["over"]))
-    keys = {"arrangement": "beyond.price", "outcome": "beyond.numerator", "claim": "beyond.claim"}
-    return _say(keys[part], value=value)
+    if part == "arrangement" and place[1] == "on":
+        return _count_line(network, place, value)
+    if part == "arrangement":
+        return _say("beyond.price", value=value, most=_large(network.limits["price"]))
+    return _say("beyond.numerator" if part == "outcome" else "beyond.claim", value=value)
+
+
+def _count_line(network: _Network, place: list[Any], value: str) -> str:
+    """More units of a trade than it has, or fewer than none."""
+    name = network.data["arrangement"]["on"][place[2]][0]
+    trade = next(each for each in network.trades if each["name"] == name)
+    return _say("beyond.count", value=value, trade=_quoted(name), most=_large(int(trade.get("units", 1))))
 
 
 def _is_of_step(place: list[Any]) -> bool:

@@ -66,13 +66,19 @@ function boundLine(network, bound, count) {
 
 /** The range of a number that is out of it, by where it stands. */
 export function rangeLine(network, place, number) {
-    const [part, member] = place, value = numeral(number), {amount, over, units} = limitsOf(network);
+    const [part, member] = place, value = numeral(number), {amount, price, over, units} = limitsOf(network);
     if (place.at(-1) === "units") return say("beyond.units", {value, most: large(units)});
     if (isOfStep(place) && place.at(-1) === 0n) return say("beyond.step_units", {value, most: large(units)});
     if (part === "firms") return say("beyond.amount", {value, version: String(network.data.version), most: large(amount)});
-    if (part === "arrangement") return say("beyond.price", {value});
+    if (part === "arrangement") return member === "on" ? countLine(network, place, value) : say("beyond.price", {value, most: large(price)});
     if (part === "outcome") return say("beyond.numerator", {value});
     return member === "plan" ? say("beyond.weight", {value, most: large(over)}) : say("beyond.claim", {value});
+}
+
+/** More units of a trade than it has, or fewer than none. */
+function countLine(network, place, value) {
+    const [name] = network.data.arrangement.on[Number(place[2])], {units} = network.trades.find((trade) => trade.name === name);
+    return say("beyond.count", {value, trade: quoted(name), most: large(units ?? 1n)});
 }
 
 /** Whether a place is in a step of a set, whose first value is how many units and whose second is what each adds. */

@@ -8,7 +8,7 @@ import {listed, numeral, quoted} from "./words.js";
 const THINGS = {document: "thing.document", firm: "thing.firm", table: "thing.table", laminar: "thing.laminar", middleman: "thing.middleman",
     dealer: "thing.dealer", trade: "thing.trade", set: "thing.set", arrangement: "thing.arrangement", outcome: "thing.outcome", claim: "thing.claim"};
 
-const WANTED = {version: "wanted.version", kind: "wanted.kind", unit_kind: "wanted.unit_kind", steps: "wanted.steps", step: "wanted.step", deed: "wanted.deed", answer: "wanted.answer", firms: "wanted.firms",
+const WANTED = {version: "wanted.version", kind: "wanted.kind", unit_kind: "wanted.unit_kind", steps: "wanted.steps", step: "wanted.step", counts: "wanted.counts", count: "wanted.count", deed: "wanted.deed", answer: "wanted.answer", firms: "wanted.firms",
     trades: "wanted.trades", rows: "wanted.rows", row: "wanted.row", bundle: "wanted.bundle", entries: "wanted.entries", entry: "wanted.entry",
     sets: "wanted.sets", number: "wanted.number", numbers: "wanted.numbers", number_or_null: "wanted.number_or_null", pairs: "wanted.pairs",
     pair: "wanted.pair", edits: "wanted.edits", edit: "wanted.edit", nodes: "wanted.nodes", node: "wanted.node", plan: "wanted.plan",

@@ -97,7 +97,7 @@ def words_of(members):
 
 class Reader:
     """The reading of a document for a command, step by step."""
-    VERSIONS, TRADE = LIMITS, "name seller buyer note"
+    VERSIONS, TRADE, PRICE = LIMITS, "name seller buyer note", PRICE
 
     def __init__(self, command, top, triple_of):
         self.command, self.top, self.triple_of = command, top, triple_of
@@ -272,9 +272,12 @@ class Reader:
     def arrangement(self, with_prices):
         value, place = self.member(self.top, TOP, "arrangement")
         self.object(value, place, "on prices")
-        self.references(*self.member(value, place, "on"))
+        self.on(*self.member(value, place, "on"))
         if with_prices:
-            self.all_prices(*self.member(value, place, "prices"), PRICE)
+            self.all_prices(*self.member(value, place, "prices"), self.PRICE)
+
+    def on(self, value, place):
+        self.references(value, place)
 
     def outcome(self):
         value, place = self.member(self.top, TOP, "outcome")

@@ -4,7 +4,7 @@ import json
 from fuzz_lib.documents import concave, keys_of, holders, nested, number
 from fuzz_lib.limits import UNIT_LIMITS, UNIT_VERSION
 
-NUMBERS = [-1, 0, 1, 1.0, -0.0, 1e300, 2 ** 63 - 1, 2 ** 63, -2 ** 63, UNIT_LIMITS.amount + 1, UNIT_LIMITS.units + 1]
+NUMBERS = [-1, 0, 1, 1.0, -0.0, 1e300, 2 ** 63 - 1, 2 ** 63, -2 ** 63, UNIT_LIMITS.amount + 1, UNIT_LIMITS.units + 1, UNIT_LIMITS.price + 1]
 
 
 def draw_steps(draw, most):
@@ -93,7 +93,27 @@ def make_units(draw, examples):
     turn = draw.randrange(3)
     if turn == 1:
         change_numbers(draw, document)
+    if turn == 2 or "arrangement" not in document:
+        document["arrangement"] = draw_arrangement(draw, document, {}, {})
     return document, turn == 2
+
+
+def draw_arrangement(draw, document, counts, prices):
+    """Units and prices near the given ones, 0 where none is given."""
+    units = {trade["name"]: trade.get("units", 1) for trade in document["trades"]}
+    turned, moved = draw.choice([0, 0.1, 0.5]), draw.choice([0, 0.1, 0.5])
+
+    def near(name, most):
+        count = counts.get(name, 0)
+        return count if draw.random() >= turned else draw.choice([draw.randint(0, most), max(0, min(count + draw.choice([-1, 1]), most))])
+
+    def price(name):
+        most = draw.choice([1, 1, 9, 90]) if draw.random() < moved else 0
+        return max(-UNIT_LIMITS.price, min(prices.get(name, 0) + draw.randint(-most, most), UNIT_LIMITS.price))
+
+    on = [[name, near(name, most)] for name, most in units.items()]
+    on = [entry for entry in on if entry[1] or draw.random() < 0.1]
+    return {"on": draw.sample(on, len(on)), "prices": [[name, price(name)] for name in units]}
 
 
 def change_numbers(draw, document):
@@ -109,7 +129,7 @@ def change_units(draw, document):
         found = holders(document)
         at = draw.choices(found, [len(each) or 0.1 for each in found])[0]
         if isinstance(at, dict) and draw.random() < 0.2:
-            words = ["units", "bought", "sold", "from", "values", "trades", "amounts", "sets", "kind", "note", "keep", "rows"]
+            words = ["units", "bought", "sold", "from", "values", "trades", "amounts", "sets", "kind", "note", "keep", "rows", "on", "prices"]
             at[draw.choice(words)] = draw.choice([1, 0, [], [[1, 2]], [[2, 1], [1, 2]], [0, 3, 4], None, "table", draw.choice(NUMBERS)])
         elif len(at):
             change_value(draw, at, draw.choice([*keys_of(at)]))
@@ -118,7 +138,7 @@ def change_units(draw, document):
 def change_value(draw, at, key):
     old = at[key]
     if type(old) is int and draw.random() < 0.6:
-        most = draw.choice([UNIT_LIMITS.amount, UNIT_LIMITS.units, UNIT_LIMITS.farthest])
+        most = draw.choice([UNIT_LIMITS.amount, UNIT_LIMITS.units, UNIT_LIMITS.farthest, UNIT_LIMITS.price])
         at[key] = draw.choice([old + 1, old - 1, -old, 0, most, most + 1, -most, -most - 1])
     elif isinstance(at, list) and draw.random() < 0.4:
         draw.choice([draw.shuffle, lambda items: items.pop(key), lambda items: items.append(old)])(at)
@@ -155,7 +175,10 @@ def at_unit_limit(draw, document):
     def rest():
         return limits.units - sum(trade.get("units", 1) for trade in trades)
 
-    side = draw.choice(["bought", "sold"])
+    def arranged(on, price=0):
+        document["arrangement"] = {"on": on, "prices": [[trade["name"], price] for trade in trades]}
+
+    side, some = draw.choice(["bought", "sold"]), draw.choice(trades or [{"name": "none"}])
     draw.choice([
         lambda: firms.extend({"name": f"F{k}..", "kind": "laminar"} for k in range(limits.firms + more - len(firms))),
         lambda: lanes([1] * (limits.trades + more - len(trades))),
@@ -172,5 +195,9 @@ def at_unit_limit(draw, document):
         lambda: with_set(**{"from": -(limits.farthest + more), "values": [0] * (limits.farthest + 2)}),
         lambda: with_set(**{"from": sign * (limits.farthest + more), "values": [0] * draw.choice([1, limits.values])}),
         lambda: with_set(**{"from": 0, "values": [sign * (limits.amount + more)]}),
+        lambda: arranged([[some["name"], some.get("units", 1) + more]]),
+        lambda: arranged([[some["name"], -more]]),
+        lambda: arranged([], sign * (limits.price + more)),
+        lambda: (lanes([1] * (limits.trades - len(trades))), arranged([[trade["name"], more] for trade in trades])),
         lambda: document.update(version=UNIT_VERSION + more),
     ])()

@@ -94,6 +94,11 @@ class UnitFirm:
         """What the firm gets for its sales, less what it pays."""
         return sum(prices[name] * counts[name] * (-1 if is_bought else 1) for name, is_bought in self.buys.items())
 
+    def utility(self, counts, prices):
+        """The worth and what is paid, None where the counts are impossible."""
+        worth = self.worth(counts)
+        return None if worth is None else worth + self.paid(counts, prices)
+
     def best(self, units, prices):
         """The greatest utility of all counts within the units."""
         def alone(name):
@@ -115,25 +120,63 @@ class UnitNetwork:
 
     def __init__(self, document):
         self.units = {trade["name"]: trade.get("units", 1) for trade in document["trades"]}
+        self.ends = {trade["name"]: (trade["seller"], trade["buyer"]) for trade in document["trades"]}
         self.firms = [UnitFirm(firm, document) for firm in document["firms"]]
+
+    def counts(self, entries):
+        """A count for each trade, 0 of one that isn't listed."""
+        return dict.fromkeys(self.units, 0) | dict(entries)
+
+    def firm(self, name):
+        return next(firm for firm in self.firms if firm.name == name)
 
     def surplus(self, counts):
         worths = [firm.worth(counts) for firm in self.firms]
         return None if None in worths else sum(worths)
+
+    def verdict(self, counts, prices):
+        """What `check` says of counts and prices, but for a best bundle."""
+        for firm in self.firms:
+            utility = firm.utility(counts, prices)
+            if utility is None:
+                return {"answer": "impossible", "firm": firm.name}
+            gain = firm.best(self.units, prices) - utility
+            if gain:
+                return {"answer": "better", "firm": firm.name, "gain": gain}
+        return {"answer": "equilibrium", "surplus": self.surplus(counts)}
 
     def why_not(self, counts, prices):
         """Why counts and prices are no equilibrium; None where they are one."""
         for name, count in counts.items():
             if not 0 <= count <= self.units[name]:
                 return f"{count} units of {name}"
+        said = self.verdict(counts, prices)
+        return {"equilibrium": None, "impossible": f"{said.get('firm')} can't have its counts",
+                "better": f"{said.get('firm')} would gain {said.get('gain')}"}[said["answer"]]
+
+    def added(self, counts, nodes):
+        """What the firms between each two nodes of a walk add to the surplus, each by its own steps there; None where one can't, and
+        where the nodes are no walk."""
+        changes = {firm.name: {} for firm in self.firms}
+        for before, after in zip(nodes, nodes[1:]):
+            faced = self.faced(before, after)
+            if len({firm for firm, _ in faced}) != 1:
+                return None
+            for firm, (name, by) in faced:
+                changes[firm][name] = by
+        total = 0
         for firm in self.firms:
-            worth = firm.worth(counts)
-            if worth is None:
-                return f"{firm.name} can't have its counts"
-            gain = firm.best(self.units, prices) - worth - firm.paid(counts, prices)
-            if gain:
-                return f"{firm.name} would gain {gain}"
-        return None
+            moved = {name: counts[name] + changes[firm.name].get(name, 0) for name in firm.buys}
+            worths = firm.worth(moved), firm.worth(counts)
+            if None in worths or not all(0 <= count <= self.units[name] for name, count in moved.items()):
+                return None
+            total += worths[0] - worths[1]
+        return total
+
+    def faced(self, before, after):
+        """The firms that two nodes in a row meet, with the steps there: one more goes from the seller to the buyer, one fewer back."""
+        left = [(self.ends[before[0]][before[1] > 0], before)] if before else []
+        return left + ([(self.ends[after[0]][after[1] < 0], after)] if after else [])
 
     def size(self):
         """How many counts there are."""

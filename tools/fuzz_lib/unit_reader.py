@@ -2,7 +2,7 @@
 from fuzz_lib.reader import (AMOUNT_RANGE, LIMIT, NO_EMPTY, NOT_CONCAVE, NOT_LAMINAR, SHAPE, TOP, Reader, is_whole, want)
 from fuzz_lib.limits import UNIT_LIMITS, UNIT_VERSION
 
-COUNTING = ("solve", "test")  # the commands that answer such documents; to all others the version is a fault
+COUNTING = ("check", "firms", "test", "support", "solve", "range")  # the commands that answer such documents; to all others the version is a fault
 
 
 def has_units(top):
@@ -12,7 +12,7 @@ def has_units(top):
 
 class UnitReader(Reader):
     """The reading of a document with units, step by step."""
-    VERSIONS, TRADE = {UNIT_VERSION: UNIT_LIMITS}, Reader.TRADE + " units"
+    VERSIONS, TRADE, PRICE = {UNIT_VERSION: UNIT_LIMITS}, Reader.TRADE + " units", UNIT_LIMITS.price
 
     def __init__(self, command, top, triple_of):
         super().__init__(command, top, triple_of)
@@ -25,6 +25,15 @@ class UnitReader(Reader):
     def units(self, trade, place):
         if "units" in trade:
             self.count(trade["units"], (place, "units"))
+
+    def on(self, value, place):
+        """How many units of trades go, which may be none."""
+        named = {}
+        for entry, at in self.list(value, place):
+            (trade, trade_at), (units, units_at) = self.list(entry, at, length=2)
+            named[self.reference(trade, trade_at, earlier=named)] = None
+            want(is_whole(units), SHAPE, units_at)
+            want(0 <= units <= self.trades[trade].get("units", 1), AMOUNT_RANGE, units_at)
 
     def ends(self):
         super().ends()

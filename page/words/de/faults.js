@@ -42,7 +42,7 @@ export const FAULTS = {
         wrong_near: "Hier ist {wanted} verlangt, nicht {found}; ist {near} gemeint?",
         minus_zero: "Hier ist eine ganze Zahl verlangt, und `-0` ist keine; zu schreiben ist `0`.",
         too_large: "Hier ist eine ganze Zahl verlangt, die mit Vorzeichen in 64 Bits passt, nicht {number}.",
-        no_units: "In Version 4 haben Geschäfte Einheiten, und nur `solve` und `test` beantworten ein solches Dokument.",
+        no_units: "In Version 4 haben Geschäfte Einheiten, und `judge`, `session` und `replay` beantworten ein solches Dokument nicht.",
         form: "Eine Menge hat `bought` und `sold` oder `from` mit `values`; diese hat {members}.",
     },
     thing: {
@@ -54,7 +54,8 @@ export const FAULTS = {
     wanted: {
         object: "ein Objekt", version: "eine der Versionen {words}", kind: "eine der Arten {words}",
         unit_kind: "die Art {words}", steps: "eine Liste von Stufen",
-        step: "eine Liste von zweien, der Zahl der Einheiten und dem, was jede bringt",
+        step: "eine Liste von zweien, der Zahl der Einheiten und dem, was jede bringt", counts: "eine Liste von Geschäften mit ihren Einheiten",
+        count: "eine Liste von zweien, dem Namen eines Geschäfts und der Zahl der Einheiten",
         deed: "eine der Änderungen {words}", answer: "eine der Antworten {words}", firms: "eine Liste von Firmen",
         trades: "eine Liste von Geschäften", rows: "eine Liste von Zeilen",
         row: "eine Liste von zweien, einem Bündel und einer Zahl", bundle: "eine Liste von Namen von Geschäften",
@@ -166,7 +167,8 @@ export const FAULTS = {
             + "höchstens den Betrag {most}.",
         units: "{value} liegt außerhalb des Bereichs; ein Geschäft hat 1 bis {most} Einheiten.",
         step_units: "{value} liegt außerhalb des Bereichs; eine Stufe hat 1 bis {most} Einheiten.",
-        price: "{value} liegt außerhalb des Bereichs; ein Preis hat höchstens den Betrag 100.000.000.000.000.",
+        count: "{value} liegt außerhalb des Bereichs; von {trade} gehen 0 bis {most} Einheiten.",
+        price: "{value} liegt außerhalb des Bereichs; ein Preis hat höchstens den Betrag {most}.",
         numerator: "{value} liegt außerhalb des Bereichs; der Zähler eines Preises hat höchstens den Betrag "
             + "100.000.000.000.",
         claim: "{value} liegt außerhalb des Bereichs; eine Zahl einer Behauptung hat höchstens den Betrag "

@@ -40,7 +40,7 @@ export const FAULTS = {
         wrong_near: "Here {wanted} is wanted, not {found}; did you mean {near}?",
         minus_zero: "Here a whole number is wanted, and `-0` is none; write `0`.",
         too_large: "Here a whole number is wanted that fits 64 bits with a sign, not {number}.",
-        no_units: "In version 4 trades have units, and only `solve` and `test` answer such a document.",
+        no_units: "In version 4 trades have units, and `judge`, `session` and `replay` don't answer such a document.",
         form: "A set has `bought` and `sold`, or `from` with `values`; this one has {members}.",
     },
     thing: {
@@ -51,7 +51,8 @@ export const FAULTS = {
     wanted: {
         object: "an object", version: "one of the versions {words}", kind: "one of the kinds {words}",
         unit_kind: "the kind {words}", steps: "a list of steps",
-        step: "a list of two, how many units and what each adds",
+        step: "a list of two, how many units and what each adds", counts: "a list of trades with their units",
+        count: "a list of two, the name of a trade and how many units go",
         deed: "one of the edits {words}", answer: "one of the answers {words}", firms: "a list of firms",
         trades: "a list of trades", rows: "a list of rows", row: "a list of two, a bundle and a number",
         bundle: "a list of names of trades", entries: "a list of entries",
@@ -157,7 +158,8 @@ export const FAULTS = {
             + "size.",
         units: "{value} is out of range; a trade has 1 to {most} units.",
         step_units: "{value} is out of range; a step has 1 to {most} units.",
-        price: "{value} is out of range; a price is at most 100,000,000,000,000 in size.",
+        count: "{value} is out of range; of {trade} from 0 to {most} units go.",
+        price: "{value} is out of range; a price is at most {most} in size.",
         numerator: "{value} is out of range; the numerator of a price is at most 100,000,000,000 in size.",
         claim: "{value} is out of range; a number of a claim is at most 1,000,000,000,000,000,000 in size.",
         weight: "{value} is out of range; the weight of a part is from 1 to {most}.",
