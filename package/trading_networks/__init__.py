@@ -19,8 +19,9 @@ Each question takes two more arguments. `program` is the path of the program; wh
 taken. `timeout` is in seconds, and None for no limit. Each question is a process of its own, but that one process of the
 page's module answers all that have no `timeout`; `stream` asks one process about any number of documents.
 """
-from .answers import (Accepted, Answer, Better, Blocks, Completes, Cycle, Drops, Equilibrium, ExchangeFails, Firm, Firms,
-                      Impossible, Invalid, Prices, Range, Ranges, Session, Solved, SolvedByCounts, State, Valid)
+from .answers import (Accepted, Answer, Better, BetterByCounts, Blocks, Completes, Cycle, CycleByCounts, Drops, Equilibrium,
+                      ExchangeFails, Firm, FirmByCounts, Firms, FirmsByCounts, Impossible, Invalid, Prices, PricesByCounts,
+                      Range, RangeByCounts, Ranges, RangesByCounts, Session, Solved, SolvedByCounts, State, Valid)
 from .assignments import assignment
 from .contributions import FirmMarginal, Marginals, TradeMarginal, clarke, marginals
 from .documents import Document
@@ -37,11 +38,12 @@ from .tables import Trouble
 __version__ = "2.1.0"
 
 __all__ = [
-    "ABSENT", "Accepted", "Answer", "Asked", "Better", "Blocks", "Completes", "Cycle", "Document", "DocumentWarning",
-    "Drops", "Equilibrium", "ExchangeFails", "Fault", "Firm", "FirmMarginal", "Firms", "Impossible", "Invalid",
-    "Marginals", "MarketError", "NoMemory", "NoProgram", "Prices", "Range", "Ranges", "ReadFailed", "Session",
-    "Shown", "Solved", "SolvedByCounts", "State", "TimedOut", "TradeMarginal", "Trouble", "Unexpected", "Usage",
-    "Valid", "WriteFailed", "ask", "assignment", "check", "clarke", "find", "firms", "from_lanes", "from_networkx",
-    "highest", "judge", "lowest", "marginals", "middle", "no_prices", "ranges", "replay", "session", "solve",
-    "stream", "support", "test",
+    "ABSENT", "Accepted", "Answer", "Asked", "Better", "BetterByCounts", "Blocks", "Completes", "Cycle",
+    "CycleByCounts", "Document", "DocumentWarning", "Drops", "Equilibrium", "ExchangeFails", "Fault", "Firm",
+    "FirmByCounts", "FirmMarginal", "Firms", "FirmsByCounts", "Impossible", "Invalid", "Marginals", "MarketError",
+    "NoMemory", "NoProgram", "Prices", "PricesByCounts", "Range", "RangeByCounts", "Ranges", "RangesByCounts",
+    "ReadFailed", "Session", "Shown", "Solved", "SolvedByCounts", "State", "TimedOut", "TradeMarginal", "Trouble",
+    "Unexpected", "Usage", "Valid", "WriteFailed", "ask", "assignment", "check", "clarke", "find", "firms",
+    "from_lanes", "from_networkx", "highest", "judge", "lowest", "marginals", "middle", "no_prices", "ranges",
+    "replay", "session", "solve", "stream", "support", "test",
 ]

@@ -64,9 +64,14 @@ class Answer:
         raise TypeError(f"an answer {self.answer!r} has no numbers by trade, firm or edit to plot")
 
 
-def _joined(names: Iterable[Optional[str]]) -> str:
-    """Names with blanks between them; no name has one. The node null of the exchange graph is null here too."""
-    return " ".join("null" if name is None else name for name in names)
+Step = tuple[str, int]
+"""One more unit of a trade, or with -1 one fewer; or a trade with how many units of it."""
+
+
+def _joined(names: Iterable[Union[str, Step, None]]) -> str:
+    """Names with blanks between them; no name has one. The node null of the exchange graph is null here too, and a number
+    that a trade has stands behind a colon."""
+    return " ".join("null" if name is None else name if isinstance(name, str) else f"{name[0]}:{name[1]}" for name in names)
 
 
 def _flat(row: Mapping[str, Any]) -> Json:
@@ -105,7 +110,7 @@ def _trades(document: Json) -> dict[str, Json]:
             for trade in document["trades"]}
 
 
-def _arrangement(on: Sequence[str], prices: Mapping[str, int]) -> Json:
+def _arrangement(on: Sequence[Any], prices: Mapping[str, int]) -> Json:
     """A document's `arrangement`."""
     return {"on": list(on), "prices": [[trade, price] for trade, price in prices.items()]}
 
@@ -129,24 +134,6 @@ class Solved(_OfTrades):
     def arrangement(self) -> Json:
         """The equilibrium as a document's `arrangement`, for `check`, `support` and `firms`."""
         return _arrangement(self.on, self.prices)
-
-
-@dataclass(frozen=True)
-class SolvedByCounts(Solved):
-    """Of `solve` where trades have units (documents of version 4): an equilibrium by counts. on: the trades of which some
-    units go. prices: of a unit of every trade. surplus: that of the counts; no counts have more. units: a dictionary from
-    every trade to how many of its units go, int. It is no claim."""
-    units: dict[str, int]
-
-    def rows(self) -> list[Json]:
-        """A row for each trade: `trade`, `seller`, `buyer`, how many units are `on`, `price`."""
-        return [{**row, "on": self.units[row["trade"]]} for row in super().rows()]
-
-    @property
-    def arrangement(self) -> Json:
-        """The equilibrium as a document's `arrangement`, in which `on` has the units of each trade that goes."""
-        on = [[trade, units] for trade, units in self.units.items() if units > 0]
-        return {"on": on, "prices": [[trade, price] for trade, price in self.prices.items()]}
 
 
 @dataclass(frozen=True)
@@ -203,12 +190,16 @@ class Ranges(Answer):
     @property
     def at_lowest(self) -> Json:
         """All lowest prices together as a document's `arrangement`; ValueError where a trade has none."""
-        return _arrangement(self.on, _all_there(self.lowest, "lowest"))
+        return self.arranged(_all_there(self.lowest, "lowest"))
 
     @property
     def at_highest(self) -> Json:
         """All highest prices together as a document's `arrangement`; ValueError where a trade has none."""
-        return _arrangement(self.on, _all_there(self.highest, "highest"))
+        return self.arranged(_all_there(self.highest, "highest"))
+
+    def arranged(self, prices: Mapping[str, int]) -> Json:
+        """These prices with what is on, as a document's `arrangement`."""
+        return _arrangement(self.on, prices)
 
     def rows(self) -> list[Json]:
         """A row for each trade: `trade`, `seller`, `buyer`, whether it is `on`, `low`, `high` (None for no bound)."""
@@ -447,6 +438,100 @@ class ExchangeFails(Answer):
     at: Optional[str]
 
 
+# Answers where trades have units, in documents of version 4. Each has the members of its kind, in which a trade stands without its
+# units, and further ones that tell them. None of them can be a claim.
+
+@dataclass(frozen=True)
+class _OfUnits(Answer):
+    """An answer that tells how many units of each trade go."""
+    units: dict[str, int]
+
+    def rows(self) -> list[Json]:
+        """As of its kind, with how many units go in place of whether the trade is `on`."""
+        return [{**row, "on": self.units[row["trade"]]} for row in super().rows()]
+
+    def arranged(self, prices: Mapping[str, int]) -> Json:
+        """These prices with the units that go, as a document's `arrangement`."""
+        return _arrangement(_going(self.units), prices)
+
+
+@dataclass(frozen=True)
+class SolvedByCounts(_OfUnits, Solved):
+    """Of `solve` where trades have units (documents of version 4): an equilibrium by counts. on: the trades of which some
+    units go. prices: of a unit of every trade. surplus: that of the counts; no counts have more. units: a dictionary from
+    every trade to how many of its units go, int."""
+
+    @property
+    def arrangement(self) -> Json:
+        """The equilibrium as a document's `arrangement`, in which `on` has the units of each trade that goes."""
+        return self.arranged(self.prices)
+
+
+@dataclass(frozen=True)
+class PricesByCounts(_OfUnits, Prices):
+    """Of `support` where trades have units: prices of a unit of each trade at which the counts are an equilibrium (yes). units: a
+    dictionary from every trade to how many of its units the arrangement has on, int."""
+
+    def _on(self) -> tuple[str, ...]:
+        return tuple(trade for trade, units in self.units.items() if units)
+
+
+@dataclass(frozen=True)
+class RangeByCounts(Range):
+    """The prices of a unit of one trade over all equilibria. low_path, high_path: the trades of these paths alone. low_steps,
+    high_steps: the paths, with None or (trade, 1) for one more unit of a trade and (trade, -1) for one fewer."""
+    low_steps: tuple[Optional[Step], ...]
+    high_steps: tuple[Optional[Step], ...]
+
+
+@dataclass(frozen=True)
+class RangesByCounts(_OfUnits, Ranges):
+    """Of `range` where trades have units: how far each price may move. on: the trades of which some units go. units: a dictionary
+    from every trade to how many of its units go, int. ranges: a dictionary from every trade to its RangeByCounts."""
+
+
+@dataclass(frozen=True)
+class FirmByCounts(Firm):
+    """One firm where trades have units. has, best: the trades of these bundles alone. units, best_units: dictionaries from these
+    trades to how many units of each."""
+    units: dict[str, int]
+    best_units: dict[str, int]
+
+
+@dataclass(frozen=True)
+class FirmsByCounts(Firms):
+    """Of `firms` where trades have units. firms: a dictionary from every firm to its FirmByCounts."""
+
+    def rows(self) -> list[Json]:
+        """A row for each firm with the members of Firm; bundles are text, as `a:300 b:200`."""
+        rows = [{**vars(each), "has": _joined(each.units.items()), "best": _joined(each.best_units.items())}
+                for each in self.firms.values() if isinstance(each, FirmByCounts)]
+        return [{name: row[name] for name in self.columns} for row in rows]
+
+
+@dataclass(frozen=True)
+class BetterByCounts(Better):
+    """Of `check` where trades have units: a firm would rather have other counts (no). bundle: the trades of a best bundle of it.
+    units: a dictionary from these trades to how many units of each, int."""
+    units: dict[str, int]
+
+    def rows(self) -> list[Json]:
+        """One row, in which the bundle is text, as `a:300 b:200`."""
+        return [{**row, "bundle": _joined(self.units.items())} for row in super().rows()]
+
+
+@dataclass(frozen=True)
+class CycleByCounts(Cycle):
+    """Of `support` where trades have units: no prices support the counts (no). nodes: the trades and None of a cycle. steps: the
+    cycle, with None or (trade, 1) for one more unit of a trade and (trade, -1) for one fewer: all together they lead to counts
+    with so much more surplus as `cost` is below 0."""
+    steps: tuple[Optional[Step], ...]
+
+    def rows(self) -> list[Json]:
+        """One row, in which the nodes are text, as `null a:-1 b:1`."""
+        return [{**row, "nodes": _joined(self.steps)} for row in super().rows()]
+
+
 _ALL: tuple[type[Answer], ...] = (
     Solved, Ranges, Firms, Session, Drops, Completes, Blocks, Valid, Invalid, Equilibrium, Better, Impossible, Prices,
     Cycle, Accepted, ExchangeFails)
@@ -469,16 +554,55 @@ def object_of(said: Json, asked: bytes, yes: bool) -> Answer:
     if kind is Invalid:
         members = {name: value for name, value in said.items() if name not in ("answer", "reason")}
         return Invalid(said, asked, yes, said["reason"], members)
-    if kind is Solved and _has_units(said, asked):
-        units = {trade: 0 for trade, _ in said["prices"]} | dict(said["on"])
-        on = tuple(trade for trade, _ in said["on"])
-        return SolvedByCounts(said, asked, yes, on, dict(said["prices"]), said["surplus"], units)
+    if kind in (Solved, Prices, Ranges, Firms, Better, Cycle):
+        document = json.loads(asked)
+        if document["version"] == UNIT_VERSION:
+            return _by_counts(said, asked, yes, document)
     return kind(said, asked, yes, *(_member(name, said[name], said.get("over")) for name in _members(kind.answer)))
 
 
-def _has_units(said: Json, asked: bytes) -> bool:
-    """Whether an answer of `solve` tells units. Where nothing goes only the document says so."""
-    return isinstance(said["on"][0], list) if said["on"] else json.loads(asked)["version"] == UNIT_VERSION
+def _by_counts(said: Json, asked: bytes, yes: bool, document: Json) -> Answer:
+    """An answer where trades have units, as an object of its kind."""
+    common, answer = (said, asked, yes), said["answer"]
+    if answer == "better":
+        return BetterByCounts(*common, said["firm"], _names(said["bundle"]), said["gain"], dict(said["bundle"]))
+    if answer == "cycle":
+        return CycleByCounts(*common, _names(said["nodes"]), said["cost"], _steps(said["nodes"]))
+    if answer == "firms":
+        firms = {each["firm"]: _firm_by_counts(each) for each in said["firms"]}
+        return FirmsByCounts(*common, firms, said["content"], said["surplus"])
+    on = said["on"] if "on" in said else document["arrangement"]["on"]
+    units = {trade["name"]: 0 for trade in document["trades"]} | dict(on)
+    if answer == "ranges":
+        ranges = {each["trade"]: _range_by_counts(each) for each in said["ranges"]}
+        return RangesByCounts(*common, _names(on), ranges, units)
+    prices = dict(said["prices"])
+    return SolvedByCounts(*common, _names(on), prices, said["surplus"], units) if answer == "solved" \
+        else PricesByCounts(*common, prices, units)
+
+
+def _firm_by_counts(each: Json) -> FirmByCounts:
+    return FirmByCounts(each["firm"], _names(each["has"]), each["worth"], each["utility"], _names(each["best"]),
+                        each["best_utility"], each["gain"], dict(each["has"]), dict(each["best"]))
+
+
+def _range_by_counts(each: Json) -> RangeByCounts:
+    low, high = each["low_path"], each["high_path"]
+    return RangeByCounts(each["trade"], each["low"], each["high"], _names(low), _names(high), _steps(low), _steps(high))
+
+
+def _names(entries: Iterable[Any]) -> tuple[Any, ...]:
+    """The trades of entries and steps, and None where it stands."""
+    return tuple(entry and entry[0] for entry in entries)
+
+
+def _steps(nodes: Iterable[Any]) -> tuple[Optional[Step], ...]:
+    return tuple(node and (node[0], node[1]) for node in nodes)
+
+
+def _going(units: Mapping[str, int]) -> list[list[Any]]:
+    """The trades of which some units go, as entries."""
+    return [[trade, count] for trade, count in units.items() if count > 0]
 
 
 def _member(name: str, value: Any, over: Optional[int]) -> Any:

@@ -34,7 +34,8 @@ def _asked(command: str, document: Asked, program: Optional[Path], timeout: Opti
 
 
 def solve(document: Asked, *, program: Optional[Path] = None, timeout: Optional[float] = None) -> Solved:
-    """An equilibrium of the network, a SolvedByCounts where its trades have units. Raises as `ask` does."""
+    """An equilibrium of the network, a SolvedByCounts where its trades have units (so it is of the other questions: RangesByCounts,
+    FirmsByCounts, BetterByCounts, PricesByCounts and CycleByCounts are of their kinds). Raises as `ask` does."""
     return cast(Solved, _asked("solve", document, program, timeout))
 
 

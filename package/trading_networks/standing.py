@@ -25,6 +25,11 @@ def at(document: Json, on: Any, prices: Mapping[str, int]) -> Json:
     return {**network(document), "arrangement": {"on": list(on), "prices": [list(entry) for entry in prices.items()]}}
 
 
+def at_ranges(found: Ranges, prices: Mapping[str, int]) -> Json:
+    """The network with what is on in its ranges, at these prices."""
+    return {**network(found.document), "arrangement": found.arranged(prices)}
+
+
 def whole(bounds: Mapping[str, Optional[int]]) -> Optional[dict[str, int]]:
     """The bounds, where there is one for each trade."""
     found = {trade: price for trade, price in bounds.items() if price is not None}
@@ -39,23 +44,30 @@ def asked_ranges(document: Asked, program: Optional[Path]) -> Ranges:
 def scaled(firm: Json, times: int) -> Json:
     """A firm to which each bundle is worth so many times as much."""
     lists = {name: [[*entry[:k], times * entry[k]] for entry in firm[name]] for name, k in NUMBER_AT.items() if name in firm}
-    sets = [{**each, "values": [times * value for value in each["values"]]} for each in firm.get("sets", [])]
+    sets = [_scaled_set(each, times) for each in firm.get("sets", [])]
     kept = firm.get("keep")
     return {**firm, **lists, **({"sets": sets} if "sets" in firm else {}),
             **({} if kept is None else {"keep": times * kept})}
+
+
+def _scaled_set(each: Json, times: int) -> Json:
+    """A set whose numbers, or what the steps add, are so many times as much."""
+    numbers = {"values": [times * value for value in each["values"]]} if "values" in each else {}
+    steps = {side: [[units, times * adds] for units, adds in each[side]] for side in ("bought", "sold") if side in each}
+    return {**each, **numbers, **steps}
 
 
 def lowest(document: Asked, *, program: Optional[Path] = None) -> Json:
     """The document at all lowest prices together, the best ones of all who only buy. Raises Trouble where a trade has
     none; `check` has confirmed it."""
     found = asked_ranges(document, program)
-    return confirmed(at(found.document, found.on, _together(found.lowest, "lowest")), program)
+    return confirmed(at_ranges(found, _together(found.lowest, "lowest")), program)
 
 
 def highest(document: Asked, *, program: Optional[Path] = None) -> Json:
     """The document at all highest prices together, the best ones of all who only sell, in the same way."""
     found = asked_ranges(document, program)
-    return confirmed(at(found.document, found.on, _together(found.highest, "highest")), program)
+    return confirmed(at_ranges(found, _together(found.highest, "highest")), program)
 
 
 def middle(document: Asked, *, program: Optional[Path] = None) -> Json:
@@ -67,7 +79,7 @@ def middle(document: Asked, *, program: Optional[Path] = None) -> Json:
     low, high = whole(found.lowest), whole(found.highest)
     if low is None or high is None:
         raise Trouble(f"there is no middle: {'; '.join(told)}")
-    made = at(found.document, found.on, {trade: price + high[trade] for trade, price in low.items()})
+    made = at_ranges(found, {trade: price + high[trade] for trade, price in low.items()})
     return confirmed({**made, "firms": [scaled(firm, 2) for firm in made["firms"]]}, program)
 
 
