@@ -1,4 +1,5 @@
 // The ranges of prices as bars, from the lowest to the highest price of each trade.
+import {namesOn} from "../read/standing.js";
 import {tradeLabel} from "../words/labels.js";
 import {say} from "../words/say.js";
 import {FIRST, foot, NORMAL, picture, tag, text, widthOf} from "./svg.js";
@@ -19,13 +20,13 @@ export function barsPicture(network, said) {
 }
 
 function barsOf(network, {on, ranges}) {
-    const bars = new Map();
+    const bars = new Map(), going = new Set(namesOn(on));
     for (const {trade, low, high} of ranges) {
         const {seller, buyer} = network.trade(trade);
         const key = JSON.stringify([seller, buyer, String(low), String(high)]);
         const bar = bars.get(key) ?? {seller, buyer, low, high, trades: [], on: 0};
         bar.trades.push(trade);
-        bar.on += on.includes(trade) ? 1 : 0;
+        bar.on += going.has(trade) ? 1 : 0;
         bars.set(key, bar);
     }
     return [...bars.values()].map((bar) => ({...bar, title: titleOf(bar)}));

@@ -1,5 +1,6 @@
 // Which trades and firms an answer speaks of, with the colour and the meaning of each.
 import {itemsOf} from "../read/network.js";
+import {nameOn} from "../read/standing.js";
 import {say} from "../words/say.js";
 import {BOTH, COME, FIRST, GONE, SECOND} from "./svg.js";
 
@@ -7,7 +8,7 @@ import {BOTH, COME, FIRST, GONE, SECOND} from "./svg.js";
 export function marksOf(network, said) {
     const trades = new Map();
     const mark = (names, ink, says) => {
-        for (const name of itemsOf(names)) if (name !== null && !trades.has(name)) trades.set(name, {ink, says});
+        for (const name of itemsOf(names).map(nameOn)) if (name !== null && !trades.has(name)) trades.set(name, {ink, says});
     };
     if (said.answer === "cycle") mark(said.nodes, FIRST, say("mark.cycle"));
     if (said.answer === "blocks") mark(said.contracts.map(([name]) => name), FIRST, say("mark.blocks"));
@@ -17,7 +18,7 @@ export function marksOf(network, said) {
     if (said.x) markBoth(mark, said.x, said.y, say("mark.x_alone"), say("mark.y_alone"), say("mark.both"));
     if (said.answer === "ranges" && said.ranges.length === 1) {
         const [{high_path: above, low_path: below}] = said.ranges;
-        markBoth(mark, above, below, say("mark.above"), say("mark.below"), say("mark.above_below"));
+        markBoth(mark, above.map(nameOn), below.map(nameOn), say("mark.above"), say("mark.below"), say("mark.above_below"));
     }
     const [part, index] = itemsOf(said.place);
     const isOfTrade = said.answer === "fault" && part === "trades" && index !== undefined;

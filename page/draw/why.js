@@ -1,8 +1,9 @@
 // The picture of why an answer is so: the changes of a cycle or of ranges, contracts that block, a plan in parts, or a failing triple.
 import {changesAlong} from "../read/changes.js";
 import {costs} from "../read/firms.js";
-import {extent, standing} from "../read/standing.js";
 import {itemsOf} from "../read/network.js";
+import {extent, nameOn, namesOn} from "../read/standing.js";
+import {nodeWord} from "../say/words.js";
 import {say} from "../words/say.js";
 import {chainPicture} from "./chain.js";
 import {isPlan, planPicture} from "./plan.js";
@@ -20,7 +21,7 @@ export async function whyPicture(network, said, ask) {
 }
 
 async function cyclePicture(network, said, ask) {
-    const on = standing(network, said).on ?? [];
+    const on = itemsOf(network.arrangement.on);
     const changes = changesAlong(network, on, [...said.nodes, said.nodes[0]]);
     const known = await costs(ask, network, on, changes), words = wordsOf(changes, known);
     const round = {words, isPriced: known.some((cost) => cost !== null), nodes: said.nodes, ink: FIRST, isRound: true,
@@ -57,10 +58,12 @@ function wordsOf(changes, known) {
 }
 
 /** What a firm would do, in short. */
-const ACTS = {buy: "picture.buy", sell: "picture.sell", "keep back": "picture.keep_back", "give up": "picture.give_up"};
+const ACTS = {buy: "picture.buy", sell: "picture.sell", "keep back": "picture.keep_back", "give up": "picture.give_up", "buy more": "picture.buy_more",
+    "buy fewer": "picture.buy_fewer", "sell more": "picture.sell_more", "sell fewer": "picture.sell_fewer"};
 
 /** Walks below each other, each under its title and over what it says. */
 function framed(parts, network, on, caption) {
+    const going = new Set(namesOn(on));
     let top = 10, width = 300;
     const drawn = [];
     for (const {nodes, words, ink, isRound, title, says} of parts) {
@@ -68,12 +71,12 @@ function framed(parts, network, on, caption) {
         if (says !== "") drawn.push(text(16, (top += 20), says, {ink, anchor: "start"}));
         width = Math.max(width, widthOf(title ?? "", LARGE) + 32, widthOf(says, 12) + 40);
         if (nodes.length === 0) continue;
-        const part = walk(nodes.map((node) => nodeOf(network, on, node)), words, {left: 16, top: top + 8, ink, isRound});
+        const part = walk(nodes.map((node) => nodeOf(network, going, node)), words, {left: 16, top: top + 8, ink, isRound});
         drawn.push(part.drawn);
         top += part.height + 8;
         width = Math.max(width, part.width + 32);
     }
-    const isOn = parts.some(({nodes}) => nodes.some((node) => on.includes(node)));
+    const isOn = parts.some(({nodes}) => nodes.some((node) => going.has(nameOn(node))));
     const thick = (x, y) => tag("rect", {x, y: y - 7, width: 36, height: 14, rx: 4, fill: "#f8fafc", stroke: INK, "stroke-width": 3});
     const legend = isOn ? [{sample: thick, says: say("picture.takes_place")}] : [];
     const lines = [caption, parts.some(({isPriced}) => isPriced) ? say("picture.costs") : ""].filter(Boolean);
@@ -81,8 +84,8 @@ function framed(parts, network, on, caption) {
     return picture(Math.max(width, 420), bottom, caption || say("picture.ranges"), drawn, below);
 }
 
-function nodeOf(network, on, node) {
-    if (node === null) return {name: say("list.no_trade"), below: "", isOn: false};
-    const {seller, buyer} = network.trade(node);
-    return {name: node, below: say("picture.ends", {seller, buyer}), isOn: itemsOf(on).includes(node)};
+function nodeOf(network, going, node) {
+    if (node === null) return {name: nodeWord(node), below: "", isOn: false};
+    const {seller, buyer} = network.trade(nameOn(node));
+    return {name: nodeWord(node), below: say("picture.ends", {seller, buyer}), isOn: going.has(nameOn(node))};
 }

@@ -38,7 +38,7 @@ export function belongs(network, said) {
     for (const name of firmsOf(said)) if (!network.firms.some((firm) => firm.name === name)) stop(`it has no firm ${name}`);
     for (const name of tradesOf(said)) if (!network.byName.has(name)) stop(`it has no trade ${name}`);
     for (const [firm, names] of bundlesOf(said)) {
-        for (const name of names) if (!network.isOf(name, firm)) stop(`${name} is no trade of ${firm}`);
+        for (const name of names.map(nameOn)) if (!network.isOf(name, firm)) stop(`${name} is no trade of ${firm}`);
     }
     if (Array.isArray(said.prices) && said.prices.length !== network.trades.length) stop(`it has ${network.trades.length} trades`);
     if (said.answer === "firms" && said.firms.length !== network.firms.length) stop(`it has ${network.firms.length} firms`);
@@ -79,11 +79,11 @@ function firmsOf(said) {
 /** Every trade that an answer names. */
 function tradesOf(said) {
     const firsts = (entries) => itemsOf(entries).map((entry) => entry[0]);
-    return [said.trade, said.at, ...itemsOf(said.bundle), ...itemsOf(said.keeps), ...itemsOf(said.nodes), ...itemsOf(said.x), ...itemsOf(said.y),
-        ...itemsOf(said.on).map(nameOn), ...firsts(said.prices), ...firsts(said.contracts),
+    const listed = [...itemsOf(said.bundle), ...itemsOf(said.keeps), ...itemsOf(said.nodes), ...itemsOf(said.x), ...itemsOf(said.y), ...itemsOf(said.on),
         ...itemsOf(said.ranges).flatMap(({trade, low_path, high_path}) => [trade, ...low_path, ...high_path]),
-        ...(said.answer === "session" ? said.edits.flatMap(({on, prices}) => [...on, ...firsts(prices)]) : []),
-        ...(said.answer === "firms" ? said.firms.flatMap(({has, best}) => [...has, ...best]) : [])].filter((name) => typeof name === "string");
+        ...(said.answer === "firms" ? said.firms.flatMap(({has, best}) => [...has, ...best]) : [])];
+    return [said.trade, said.at, ...listed.map(nameOn), ...firsts(said.prices), ...firsts(said.contracts),
+        ...(said.answer === "session" ? said.edits.flatMap(({on, prices}) => [...on, ...firsts(prices)]) : [])].filter((name) => typeof name === "string");
 }
 
 /** The bundles that an answer says of firms, as `[firm, trades]`. */

@@ -1,14 +1,19 @@
 // What bundles are worth, asked of the program: all numbers that no answer has come from its command `firms`, which is asked
 // about the document with another arrangement.
 import {countedBy} from "./counted.js";
-import {plain, parse} from "./json.js";
+import {plain, parse, written} from "./json.js";
+import {hasUnits} from "./limits.js";
 import {gcd, objectOf, withMember} from "./network.js";
+import {unitsOf} from "./standing.js";
+
+/** Where trades have units, changes in larger networks have no costs: to ask for them all would take too long. */
+const MOST_TRADES = 200;
 
 /** What `firms` says of an arrangement: a Map from each firm to its line, or null where there is no program or a fault. */
 export async function linesAt(ask, network, on, prices = new Map()) {
     if (ask === null || network.root.kind !== "object") return null;
     const entries = network.trades.map(({name}) => `[${JSON.stringify(name)},${prices.get(name) ?? 0}]`);
-    const asked = withMember(network, "arrangement", `{"on":${JSON.stringify(on)},"prices":[${entries}]}`);
+    const asked = withMember(network, "arrangement", `{"on":${written(on)},"prices":[${entries}]}`);
     const said = objectOf(plain(parse(await ask(["firms"], asked))));
     return said.answer === "firms" ? new Map(said.firms.map((line) => [line.firm, line])) : null;
 }
@@ -21,15 +26,14 @@ export async function worths(ask, network, firm, bundles) {
 }
 
 /**
- * What each change costs its firm in worth, by the trades that are on; null where that isn't known. A change is `{firm, toggled}`.
- * Changes that leave each other's firms alone are asked for together.
+ * What each change costs its firm in worth, by what is on; null where that isn't known. A change is one of read/changes.js. Changes
+ * that leave each other's firms alone are asked for together.
  */
 export async function costs(ask, network, on, changes) {
-    const now = await linesAt(ask, network, on);
+    const isLarge = hasUnits(network.data) && network.trades.length > MOST_TRADES, now = isLarge ? null : await linesAt(ask, network, on);
     const known = new Map();
     for (const together of now === null ? [] : apart(network, changes)) {
-        const toggled = new Set(together.flatMap((change) => change.toggled));
-        const then = await linesAt(ask, network, [...on.filter((name) => !toggled.has(name)), ...[...toggled].filter((name) => !on.includes(name))]);
+        const then = await linesAt(ask, network, changed(on, together));
         for (const change of together) {
             const worth = then?.get(change.firm)?.worth ?? null, before = now.get(change.firm)?.worth ?? null;
             if (worth !== null && before !== null) known.set(keyOf(change), before - worth);
@@ -38,8 +42,16 @@ export async function costs(ask, network, on, changes) {
     return changes.map((change) => known.get(keyOf(change)) ?? null);
 }
 
-function keyOf({firm, toggled}) {
-    return JSON.stringify([firm, ...[...toggled].sort()]);
+/** What is on after some changes, by trades or by their units. */
+function changed(on, changes) {
+    const acts = changes.flatMap((change) => change.acts), isByUnits = acts.some(({by}) => by !== undefined);
+    if (isByUnits) return [...acts.reduce((units, {trade, by}) => units.set(trade, (units.get(trade) ?? 0n) + by), unitsOf(on))];
+    const toggled = new Set(acts.map(({trade}) => trade));
+    return [...on.filter((name) => !toggled.has(name)), ...[...toggled].filter((name) => !on.includes(name))];
+}
+
+function keyOf({firm, acts}) {
+    return JSON.stringify([firm, ...acts.map(({trade, by = ""}) => `${trade} ${by}`).sort()]);
 }
 
 /** Changes in groups, each of which toggles at a firm that changes what this firm changes alone. Equal changes are taken once. */

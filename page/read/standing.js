@@ -10,14 +10,19 @@ export function isJudged(network, said) {
     return JUDGED.includes(decided ? network.claim.answer : said.answer);
 }
 
-/** The units of each trade that has some, by its name, where an answer tells them: then `on` has pairs, and else it has names. */
-export function unitsOf(said) {
-    return new Map(itemsOf(said.on).filter(Array.isArray));
+/** The units of each trade that has some, by its name, where they are told: then what is on are pairs, and else it is names. */
+export function unitsOf(on) {
+    return new Map(itemsOf(on).filter((entry) => Array.isArray(entry) && entry[1] !== 0n));
 }
 
-/** The name of a trade in the list of those that are on, with its units or without. */
+/** The name of a trade in a list, in which it stands with its units, with a step by one unit, or alone; null as it is. */
 export function nameOn(entry) {
     return Array.isArray(entry) ? entry[0] : entry;
+}
+
+/** The names of the trades in what is on, but for those of which no unit is. */
+export function namesOn(on) {
+    return itemsOf(on).filter((entry) => !Array.isArray(entry) || entry[1] !== 0n).map((entry) => String(nameOn(entry)));
 }
 
 /**
@@ -36,7 +41,7 @@ export function standing(network, said) {
         return {on: last.on, prices: texts(entriesOf(last.prices))};
     }
     const on = said.on ?? network.arrangement.on;
-    return {on: Array.isArray(on) ? on.map((entry) => String(nameOn(entry))) : null, units: unitsOf(said),
+    return {on: Array.isArray(on) ? namesOn(on) : null, units: unitsOf(on),
         prices: texts(entriesOf(said.prices ?? network.arrangement.prices))};
 }
 

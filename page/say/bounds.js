@@ -77,7 +77,7 @@ export function rangeLine(network, place, number) {
 
 /** More units of a trade than it has, or fewer than none. */
 function countLine(network, place, value) {
-    const [name] = network.data.arrangement.on[Number(place[2])], {units} = network.trades.find((trade) => trade.name === name);
+    const [name] = network.data.arrangement.on[Number(place[2])], {units} = network.data.trades.find((trade) => trade.name === name);
     return say("beyond.count", {value, trade: quoted(name), most: large(units ?? 1n)});
 }
 

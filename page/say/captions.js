@@ -3,7 +3,7 @@ import {extent} from "../read/standing.js";
 import {fraction, itemsOf} from "../read/network.js";
 import {say} from "../words/say.js";
 import {cause, wayTo} from "./faults.js";
-import {set} from "./words.js";
+import {nodeWord, set} from "./words.js";
 
 /** The lines below the picture of a network; none without an answer. */
 export function captionOf(network, said) {
@@ -11,7 +11,7 @@ export function captionOf(network, said) {
 }
 
 function path(nodes) {
-    return nodes.map((node) => node ?? say("list.no_trade")).join(", ");
+    return nodes.map(nodeWord).join(", ");
 }
 
 const CAPTIONS = {

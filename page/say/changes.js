@@ -2,7 +2,8 @@
 import {say} from "../words/say.js";
 import {listed} from "./words.js";
 
-const ACTS = {buy: "change.buy", sell: "change.sell", "keep back": "change.keep_back", "give up": "change.give_up"};
+const ACTS = {buy: "change.buy", sell: "change.sell", "keep back": "change.keep_back", "give up": "change.give_up", "buy more": "change.buy_more",
+    "buy fewer": "change.buy_fewer", "sell more": "change.sell_more", "sell fewer": "change.sell_fewer"};
 
 /** An act as it stands after "would". */
 function actOf({does, trade, partner}) {

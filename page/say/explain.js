@@ -1,7 +1,7 @@
 // An answer to a document in sentences. They hold no numbers but those of the document, of the answer, and of what `firms` answers.
+import {hasUnits} from "../read/limits.js";
 import {fraction} from "../read/network.js";
 import {simplest} from "../read/simpler.js";
-import {unitsOf} from "../read/standing.js";
 import {say} from "../words/say.js";
 import {claimed, failed} from "./claims.js";
 import {failingLines} from "./exchange.js";
@@ -41,10 +41,9 @@ function earlier(network, firm, key) {
 
 const ANSWERS = {
     equilibrium: (said, network) => [say("answer.equilibrium"), ...trading(network, said),
-        say("answer.most", {surplus: said.surplus})],
-    solved: (said, network) => [say("answer.solved"), ...trading(network, said),
-        say(unitsOf(said).size > 0 ? "answer.most_units" : "answer.most", {surplus: said.surplus})],
-    prices: (said, network) => [say("answer.prices"), ...trading(network, said), say("answer.none_more")],
+        most(said, network)],
+    solved: (said, network) => [say("answer.solved"), ...trading(network, said), most(said, network)],
+    prices: (said, network) => [say("answer.prices"), ...trading(network, said), say(hasUnits(network.data) ? "answer.none_more_units" : "answer.none_more")],
     cycle: async (said, network, ask) => {
         const {head, steps} = await storyOf(network, said, ask);
         return [head, ...steps.map(({says}) => says)];
@@ -87,6 +86,11 @@ const ANSWERS = {
     read_fault: () => [say("answer.read_fault")],
     no_memory: () => [say("answer.no_memory")],
 };
+
+/** That nothing has a greater sum of worths. */
+function most({surplus}, network) {
+    return say(hasUnits(network.data) ? "answer.most_units" : "answer.most", {surplus});
+}
 
 function betterLines(said, network) {
     const deals = new Deals(network, said), {firm, bundle, gain} = said;

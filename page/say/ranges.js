@@ -1,6 +1,7 @@
 // Ranges of prices in sentences.
 import {changesAlong} from "../read/changes.js";
 import {costs} from "../read/firms.js";
+import {hasUnits} from "../read/limits.js";
 import {extent} from "../read/standing.js";
 import {say} from "../words/say.js";
 import {changeWith} from "./changes.js";
@@ -15,8 +16,14 @@ export async function rangeLines({on, ranges}, network, ask) {
     const isBounded = (side) => ranges.length > 0 && ranges.every((range) => range[side] !== null);
     const lines = groups.flatMap((group, k) => groupLines(group, network, told[2 * k], told[2 * k + 1]));
     return [say("range.head"), ...lines,
-        on.length === 0 ? say("range.best_none") : say("range.best", {trades: listed(on)}),
+        bestLine(on, network),
         ...(isBounded("high") ? [say("range.highest")] : []), ...(isBounded("low") ? [say("range.lowest")] : [])];
+}
+
+/** That nothing has a greater sum of worths than what is on. */
+function bestLine(on, network) {
+    if (!hasUnits(network.data)) return on.length === 0 ? say("range.best_none") : say("range.best", {trades: listed(on)});
+    return on.length === 0 ? say("range.best_no_units") : say("range.best_units", {units: listed(on.map(([trade, count]) => say("range.units", {trade, count})))});
 }
 
 function groupLines(group, network, below, above) {

@@ -3,7 +3,6 @@
 import {changesAlong} from "../read/changes.js";
 import {costs, gains, haves, keeping, worths} from "../read/firms.js";
 import {entriesOf, fraction, itemsOf} from "../read/network.js";
-import {standing} from "../read/standing.js";
 import {say} from "../words/say.js";
 import {changeWith} from "./changes.js";
 import {failingLines} from "./exchange.js";
@@ -27,7 +26,7 @@ export async function storyOf(network, said, ask) {
 const STORIES = {cycle: cycleStory, impossible: impossibleStory, exchange_fails: failingStory, drops: dropsStory, blocks: chainStory};
 
 async function cycleStory(network, {nodes, cost}, ask) {
-    const on = standing(network, {}).on ?? [], changes = changesAlong(network, on, [...nodes, nodes[0]]);
+    const on = itemsOf(network.arrangement.on), changes = changesAlong(network, on, [...nodes, nodes[0]]);
     const known = await costs(ask, network, on, changes), below = new Map(), before = new Map();
     const steps = changes.map((change, k) => {
         below.set(change.firm, known[k] === null ? [] : [costWord(known[k])]);

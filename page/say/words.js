@@ -1,5 +1,5 @@
 // How sentences name trades, prices and numbers.
-import {standing} from "../read/standing.js";
+import {nameOn, standing} from "../read/standing.js";
 import {labelOf} from "../words/labels.js";
 import {say} from "../words/say.js";
 
@@ -14,7 +14,18 @@ export function listed(words) {
 }
 
 export function set(names) {
-    return `{${names.map(labelOf).join(", ")}}`;
+    return `{${names.map(shortOf).join(", ")}}`;
+}
+
+/** A trade in a list, with a colon and its units where it has some. */
+function shortOf(entry) {
+    return Array.isArray(entry) ? `${labelOf(entry[0])}:${entry[1]}` : labelOf(entry);
+}
+
+/** A node of a walk: a trade, or one with +1 or -1 where trades have units, or null. */
+export function nodeWord(node) {
+    if (node === null) return say("list.no_trade");
+    return Array.isArray(node) ? `${labelOf(node[0])} ${node[1] > 0n ? "+" : "\u2212"}1` : node;
 }
 
 /** A text of a document as it is named in sentences: between marks, and not at length. */
@@ -54,12 +65,13 @@ export class Deals {
 
     /**
      * Names, with parallel ones at one price together, as `{seller, buyer, names, price, units}`; a price is absent where there is
-     * none, and so are units, with which a trade stands alone.
+     * none, and so are units, with which a trade stands alone. Names may have units of their own.
      */
     groups(names) {
         const groups = new Map();
-        for (const name of names) {
-            const {seller, buyer} = this.network.trade(name), price = this.prices.get(name), units = this.units.get(name);
+        for (const entry of names) {
+            const name = nameOn(entry), units = Array.isArray(entry) ? entry[1] : this.units.get(name);
+            const {seller, buyer} = this.network.trade(name), price = this.prices.get(name);
             const key = JSON.stringify([seller, buyer, price, units === undefined ? null : name]);
             if (!groups.has(key)) groups.set(key, {seller, buyer, names: [], price, units});
             groups.get(key).names.push(name);
@@ -93,12 +105,16 @@ export class Deals {
 }
 
 /** The keys of what is said of a lane, with its price and without one, and of a trade with units. */
-const PRICED = ["deal.priced", "deal.unpriced"], SELLS = ["deal.sells", "deal.sells_unpriced", "deal.sells_units"];
-const DOES = [["deal.does_sell", "deal.does_sell_unpriced"], ["deal.does_buy", "deal.does_buy_unpriced"]];
-const DO = [["deal.do_sell", "deal.do_sell_unpriced"], ["deal.do_buy", "deal.do_buy_unpriced"]];
+const PRICED = ["deal.priced", "deal.unpriced"], SELLS = ["deal.sells", "deal.sells_unpriced", "deal.sells_units", "deal.sells_units_unpriced"];
+const DOES = [["deal.does_sell", "deal.does_sell_unpriced", "deal.does_sell_units", "deal.does_sell_units_unpriced"],
+    ["deal.does_buy", "deal.does_buy_unpriced", "deal.does_buy_units", "deal.does_buy_units_unpriced"]];
+const DO = [["deal.do_sell", "deal.do_sell_unpriced", "deal.do_sell_units", "deal.do_sell_units_unpriced"],
+    ["deal.do_buy", "deal.do_buy_unpriced", "deal.do_buy_units", "deal.do_buy_units_unpriced"]];
 
-function told({names, price, units, ...ends}, [priced, unpriced, counted]) {
-    if (units !== undefined) return say(counted, {...ends, trades: listed(names), count: units, price});
+function told({names, price, units, ...ends}, [priced, unpriced, counted, countedUnpriced]) {
+    if (units !== undefined && counted) {
+        return say(price === undefined ? countedUnpriced : counted, {...ends, trades: listed(names), count: units, price: price ?? ""});
+    }
     const values = {...ends, trades: listed(names), count: names.length};
     return price === undefined ? say(unpriced, values) : say(priced, {...values, price});
 }

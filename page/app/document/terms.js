@@ -1,5 +1,6 @@
 // What takes place and at which prices, as a guess or as what is signed: read from the text, and changed in it.
 import {entriesOf, itemsOf} from "../../read/network.js";
+import {namesOn} from "../../read/standing.js";
 import {countedOver, outcomeOf, signed, signedAs, unsigned} from "./contracts.js";
 import {arranged, priced, turned} from "./edits.js";
 import {isOld, networkOf} from "./state.js";
@@ -7,7 +8,7 @@ import {isOld, networkOf} from "./state.js";
 /** The names of the trades that take place, or are signed, and the price of each, of what is signed its numerator. */
 export function termsOf({document, view}) {
     const network = networkOf(document);
-    if (view.mode === "guess") return {on: new Set(itemsOf(network.arrangement.on)), prices: entriesOf(network.arrangement.prices)};
+    if (view.mode === "guess") return {on: new Set(namesOn(network.arrangement.on)), prices: entriesOf(network.arrangement.prices)};
     const {contracts} = outcomeOf(network);
     return {on: new Set(contracts.keys()), prices: contracts};
 }

@@ -62,7 +62,12 @@ export function cellsOf(line) {
 }
 
 function namesOf(names) {
-    return names.length === 0 ? say("list.none") : names.map(tradeLabel).join(", ");
+    return names.length === 0 ? say("list.none") : names.map(nameOf).join(", ");
+}
+
+/** A trade of a bundle, with how many units of it where it has some. */
+function nameOf(entry) {
+    return Array.isArray(entry) ? `${tradeLabel(entry[0])}: ${entry[1]}` : tradeLabel(entry);
 }
 
 /** The firms that aren't content, or would drop what they have signed. */

@@ -55,16 +55,23 @@ export function rangesTable({ranges: {said}}) {
     return [["head.trade", "head.on", "head.low", "head.high"].map((head) => say(head)), ...lines];
 }
 
-/** Whether an answer is one of `solve` to a document whose trades have units. */
+/** Whether an answer to a document whose trades have units has a table. */
 export function isCountedAnswer(asked, said) {
-    return said?.answer === "solved" && hasUnits(networkOf(asked).data);
+    return ["solved", "prices", "ranges", "firms"].includes(said?.answer) && hasUnits(networkOf(asked).data);
 }
 
-/** How many units of each trade go, of how many, and at which price. */
+/** How many units of each trade go, of how many, and at which price, or at least and at most at which; or what each firm has. */
 export function countsTable(asked, said) {
-    const network = networkOf(asked), counts = entriesOf(said.on), prices = entriesOf(said.prices);
+    if (said.answer === "firms") return [HEADS.map((head) => say(head)), ...said.firms.map((line) => [firmLabel(line.firm), ...cellsOf(line)])];
+    const network = networkOf(asked), counts = entriesOf(said.on ?? network.arrangement.on), ofPrice = pricesOf(said);
     const units = new Map(itemsOf(network.data.trades).filter(isObject).map(({name, units: all}) => [name, all ?? 1n]));
     const lines = network.trades.map(({name, seller, buyer}) => [tradeLabel(name), firmLabel(seller), firmLabel(buyer), counts.get(name) ?? 0n, units.get(name),
-        prices.get(name)]);
-    return [["head.trade", "head.from", "head.to", "head.units", "head.all_units", "head.price"].map((head) => say(head)), ...lines];
+        ...ofPrice.get(name)]);
+    const heads = said.answer === "ranges" ? ["head.low", "head.high"] : ["head.price"];
+    return [["head.trade", "head.from", "head.to", "head.units", "head.all_units", ...heads].map((head) => say(head)), ...lines];
+}
+
+/** What a table has of the price of each trade: that, or the lowest and the highest one, nothing where there is no bound. */
+function pricesOf({ranges, prices}) {
+    return new Map(ranges ? ranges.map(({trade, low, high}) => [trade, [low ?? "", high ?? ""]]) : [...entriesOf(prices)].map(([name, price]) => [name, [price]]));
 }

@@ -20,6 +20,42 @@ export const ANSWERS = {
             one: "{seller} verkauft {count} Einheit von {trades} für {price} an {buyer}",
             other: "{seller} verkauft {count} Einheiten von {trades} für je {price} an {buyer}",
         },
+        sells_units_unpriced: {
+            one: "{seller} verkauft {count} Einheit von {trades} an {buyer}",
+            other: "{seller} verkauft {count} Einheiten von {trades} an {buyer}",
+        },
+        does_sell_units: {
+            one: "verkauft {count} Einheit von {trades} für {price} an {buyer}",
+            other: "verkauft {count} Einheiten von {trades} für je {price} an {buyer}",
+        },
+        does_sell_units_unpriced: {
+            one: "verkauft {count} Einheit von {trades} an {buyer}",
+            other: "verkauft {count} Einheiten von {trades} an {buyer}",
+        },
+        do_sell_units: {
+            one: "{count} Einheit von {trades} für {price} an {buyer} verkaufen",
+            other: "{count} Einheiten von {trades} für je {price} an {buyer} verkaufen",
+        },
+        do_sell_units_unpriced: {
+            one: "{count} Einheit von {trades} an {buyer} verkaufen",
+            other: "{count} Einheiten von {trades} an {buyer} verkaufen",
+        },
+        does_buy_units: {
+            one: "kauft {count} Einheit von {trades} für {price} von {seller}",
+            other: "kauft {count} Einheiten von {trades} für je {price} von {seller}",
+        },
+        does_buy_units_unpriced: {
+            one: "kauft {count} Einheit von {trades} von {seller}",
+            other: "kauft {count} Einheiten von {trades} von {seller}",
+        },
+        do_buy_units: {
+            one: "{count} Einheit von {trades} für {price} von {seller} kaufen",
+            other: "{count} Einheiten von {trades} für je {price} von {seller} kaufen",
+        },
+        do_buy_units_unpriced: {
+            one: "{count} Einheit von {trades} von {seller} kaufen",
+            other: "{count} Einheiten von {trades} von {seller} kaufen",
+        },
         does_nothing: "macht kein Geschäft", does_sell_unpriced: "verkauft {trades} an {buyer}",
         does_sell: {
             one: "verkauft {trades} für {price} an {buyer}",
@@ -42,6 +78,9 @@ export const ANSWERS = {
         },
     },
     change: {
+        buy_more: "eine Einheit mehr von {trade} bei {partner} kaufen", buy_fewer: "eine Einheit weniger von {trade} bei {partner} kaufen",
+        sell_more: "eine Einheit mehr von {trade} an {partner} verkaufen",
+        sell_fewer: "eine Einheit weniger von {trade} an {partner} verkaufen",
         buy: "{trade} von {partner} kaufen", sell: "{trade} an {partner} verkaufen",
         keep_back: "{trade} zurückhalten", give_up: "auf {trade} verzichten", plain: "{firm} würde {acts}",
         free: "{firm} würde {acts}, ohne dabei Wert zu verlieren",
@@ -60,6 +99,7 @@ export const ANSWERS = {
         prices: "Zu diesen Geschäften gibt es Preise: Bei den folgenden hat jede Firma ein Bündel, das für sie am "
             + "besten ist, und keine würde lieber etwas anderes tun.",
         none_more: "Keine andere Menge von Geschäften hat eine größere Summe der Werte.",
+        none_more_units: "Bei keinen anderen Mengen ist die Summe der Werte größer.",
         better: "Das ist kein Gleichgewicht: {firm} stünde anders besser da.",
         as_it_is: "So, wie es ist, gilt: {firm} {does}.",
         rather: "Bei diesen Preisen würde sie lieber {do}: Ihr Nutzen ist dann um {gain} größer, und kein Bündel "
@@ -167,6 +207,8 @@ export const ANSWERS = {
         not_above: "nicht über {price}: {changes}.",
         best_none: "Keine Menge von Geschäften hat eine größere Summe der Werte als gar keines.",
         best: "Keine Menge von Geschäften hat eine größere Summe der Werte als {trades}.",
+        best_no_units: "Bei keinen Mengen ist die Summe der Werte größer als ohne jedes Geschäft.",
+        best_units: "Bei keinen Mengen ist die Summe der Werte größer als bei {units}.", units: "{count} von {trade}",
         highest: "Alle höchsten Preise zusammen sind damit ein Gleichgewicht.",
         lowest: "Alle niedrigsten Preise zusammen sind damit ein Gleichgewicht.",
     },

@@ -29,6 +29,8 @@ export const PICTURES = {
         not_above: "nicht über {price}, denn die Summe dieser Kosten ist {price}",
         not_below: "nicht unter {price}, denn die Summe dieser Kosten ist {sum}",
         would: "{firm} würde", buy: "{trade} kaufen", sell: "{trade} verkaufen", keep_back: "{trade} zurückhalten",
+        buy_more: "1 {trade} mehr kaufen", buy_fewer: "1 {trade} weniger kaufen", sell_more: "1 {trade} mehr verkaufen",
+        sell_fewer: "1 {trade} weniger verkaufen",
         give_up: "auf {trade} verzichten", cost: "Kosten {cost}",
     },
     caption: {

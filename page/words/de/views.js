@@ -1,8 +1,8 @@
 // What is said above the network and in it, of bounds, what-ifs and claims.
 export const VIEWS = {
     verdict: {
-        counted: "Die Geschäfte haben hier Einheiten: frage solve unter „Antworten“. Vorschlag, Verträge, „Was, wenn?“, Behauptung und "
-            + "Formular kennen nur Geschäfte von einer Einheit.",
+        counted: "Die Geschäfte haben hier Einheiten: frage solve, check, firms, support oder range unter „Antworten“. Vorschlag, "
+            + "Verträge, „Was, wenn?“, Behauptung und Formular kennen nur Geschäfte von einer Einheit.",
         asked: "Das Programm wird gefragt.",
         too_long: "Das Dokument ist zu lang, um hier betrachtet zu werden. Die Befehle unter „Antworten“ gehen "
             + "trotzdem.",

@@ -17,6 +17,42 @@ export const ANSWERS = {
             one: "{seller} sells {count} unit of {trades} to {buyer} at {price}",
             other: "{seller} sells {count} units of {trades} to {buyer} at {price} each",
         },
+        sells_units_unpriced: {
+            one: "{seller} sells {count} unit of {trades} to {buyer}",
+            other: "{seller} sells {count} units of {trades} to {buyer}",
+        },
+        does_sell_units: {
+            one: "sells {count} unit of {trades} to {buyer} at {price}",
+            other: "sells {count} units of {trades} to {buyer} at {price} each",
+        },
+        does_sell_units_unpriced: {
+            one: "sells {count} unit of {trades} to {buyer}",
+            other: "sells {count} units of {trades} to {buyer}",
+        },
+        do_sell_units: {
+            one: "sell {count} unit of {trades} to {buyer} at {price}",
+            other: "sell {count} units of {trades} to {buyer} at {price} each",
+        },
+        do_sell_units_unpriced: {
+            one: "sell {count} unit of {trades} to {buyer}",
+            other: "sell {count} units of {trades} to {buyer}",
+        },
+        does_buy_units: {
+            one: "buys {count} unit of {trades} from {seller} at {price}",
+            other: "buys {count} units of {trades} from {seller} at {price} each",
+        },
+        does_buy_units_unpriced: {
+            one: "buys {count} unit of {trades} from {seller}",
+            other: "buys {count} units of {trades} from {seller}",
+        },
+        do_buy_units: {
+            one: "buy {count} unit of {trades} from {seller} at {price}",
+            other: "buy {count} units of {trades} from {seller} at {price} each",
+        },
+        do_buy_units_unpriced: {
+            one: "buy {count} unit of {trades} from {seller}",
+            other: "buy {count} units of {trades} from {seller}",
+        },
         does_nothing: "trades nothing", does_sell_unpriced: "sells {trades} to {buyer}",
         does_sell: {one: "sells {trades} to {buyer} at {price}", other: "sells {trades} to {buyer} at {price} each"},
         does_buy_unpriced: "buys {trades} from {seller}",
@@ -30,6 +66,8 @@ export const ANSWERS = {
         do_buy: {one: "buy {trades} from {seller} at {price}", other: "buy {trades} from {seller} at {price} each"},
     },
     change: {
+        buy_more: "buy one more unit of {trade} from {partner}", buy_fewer: "buy one unit fewer of {trade} from {partner}",
+        sell_more: "sell one more unit of {trade} to {partner}", sell_fewer: "sell one unit fewer of {trade} to {partner}",
         buy: "buy {trade} from {partner}", sell: "sell {trade} to {partner}", keep_back: "keep back {trade}",
         give_up: "give up {trade}", plain: "{firm} would {acts}", free: "{firm} would {acts} at no cost in worth",
         costs: "{firm} would {acts} at a cost of {cost} in worth",
@@ -46,6 +84,7 @@ export const ANSWERS = {
         prices: "There are prices for these trades: at those below each firm has a bundle that is best for [it|them], and "
             + "nobody would rather do something else.",
         none_more: "No other set of trades has a greater sum of worths.",
+        none_more_units: "No other numbers of units have a greater sum of worths.",
         better: "This is no equilibrium: {firm} would do better.",
         as_it_is: "As it is, {firm} {does}.",
         rather: "At these prices [it|they] would rather {do}: [its|their] utility is then greater by {gain}, and no bundle brings "
@@ -145,6 +184,8 @@ export const ANSWERS = {
         not_above: "not above {price}: {changes}.",
         best_none: "No set of trades has a greater sum of worths than none at all.",
         best: "No set of trades has a greater sum of worths than {trades}.",
+        best_no_units: "No numbers of units have a greater sum of worths than none at all.",
+        best_units: "No numbers of units have a greater sum of worths than {units}.", units: "{count} of {trade}",
         highest: "All highest prices together are an equilibrium with that.",
         lowest: "All lowest prices together are an equilibrium with that.",
     },

@@ -27,6 +27,8 @@ export const PICTURES = {
         not_above: "not above {price}, since these costs sum to {price}",
         not_below: "not below {price}, since these costs sum to {sum}",
         would: "{firm} would", buy: "buy {trade}", sell: "sell {trade}", keep_back: "keep back {trade}",
+        buy_more: "buy 1 more of {trade}", buy_fewer: "buy 1 fewer of {trade}", sell_more: "sell 1 more of {trade}",
+        sell_fewer: "sell 1 fewer of {trade}",
         give_up: "give up {trade}", cost: "cost {cost}",
     },
     caption: {

@@ -1,8 +1,8 @@
 // What is said above the network and in it, of bounds, what-ifs and claims.
 export const VIEWS = {
     verdict: {
-        counted: "The trades have units here: ask solve, under Answers. Guesses, contracts, What if, claims and the form know trades "
-            + "of one unit alone.",
+        counted: "The trades have units here: ask solve, check, firms, support or range, under Answers. Guesses, contracts, "
+            + "What if, claims and the form know trades of one unit alone.",
         asked: "The program is asked.",
         too_long: "The document is too long to be looked at here. The commands can be asked.",
         too_long_to_guess: "The document is too long to guess at. The commands can be asked.",

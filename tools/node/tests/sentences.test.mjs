@@ -51,7 +51,7 @@ async function small(words, document) {
 
 test("what a change costs, and what bundles are worth, is asked of the program", async () => {
     const network = new Network(examples().find(({name}) => name === "one-trade-off.json").bytes.toString());
-    const changes = [{firm: "S", toggled: ["a"]}, {firm: "B", toggled: ["a"]}];
+    const changes = ["S", "B"].map((firm) => ({firm, toggled: ["a"], acts: [{trade: "a"}]}));
     assert.deepEqual(await costs(small, network, [], changes), [3n, -5n]);
     assert.deepEqual(await costs(null, network, [], changes), [null, null]);
     assert.deepEqual(await worths(small, network, "B", [["a"], []]), [5n, 0n]);
@@ -70,7 +70,7 @@ test("what firms have before and after contracts that block", {skip}, async (con
 test("limits that are told are those of FORMAT, for each version", () => {
     const format = readFileSync(new URL("../../../docs/FORMAT.md", import.meta.url), "utf8");
     const rows = {most: "The most firms", own: "The most own trades of a firm of another kind", values: "The most numbers of a set", edits: "The most edits",
-        farthest: "The farthest net count from 0 that the first number of a set may be for", amount: "The largest number of a firm", over: "The largest denominator of a claim"};
+        farthest: "The farthest net count from 0 that the first number of a set may be for", amount: "The largest number of a firm", price: "The largest price of an arrangement", over: "The largest denominator of a claim"};
     const cells = (head) => format.split("\n").find((line) => line.startsWith(`| ${head} |`)).split("|").slice(2, -1).map((cell) => Number(cell.replaceAll(",", "")));
     for (const version of [1, 2, 3]) {
         const limits = limitsOf(new Network(JSON.stringify({version, firms: [], trades: []})));
