@@ -569,12 +569,12 @@ def _by_counts(said: Json, asked: bytes, yes: bool, document: Json) -> Answer:
     if answer == "cycle":
         return CycleByCounts(*common, _names(said["nodes"]), said["cost"], _steps(said["nodes"]))
     if answer == "firms":
-        firms = {each["firm"]: _firm_by_counts(each) for each in said["firms"]}
+        firms: dict[str, Firm] = {each["firm"]: _firm_by_counts(each) for each in said["firms"]}
         return FirmsByCounts(*common, firms, said["content"], said["surplus"])
     on = said["on"] if "on" in said else document["arrangement"]["on"]
     units = {trade["name"]: 0 for trade in document["trades"]} | dict(on)
     if answer == "ranges":
-        ranges = {each["trade"]: _range_by_counts(each) for each in said["ranges"]}
+        ranges: dict[str, Range] = {each["trade"]: _range_by_counts(each) for each in said["ranges"]}
         return RangesByCounts(*common, _names(on), ranges, units)
     prices = dict(said["prices"])
     return SolvedByCounts(*common, _names(on), prices, said["surplus"], units) if answer == "solved" \
