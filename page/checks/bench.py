@@ -886,6 +886,13 @@ def tries_of_units(page: Bench, program: str | None):
     wanted = [["p-d", "Plant", "Depot", "140", "150", "32"], ["d-a", "Depot", "A", "60", "100", "44"], ["d-b", "Depot", "B", "80", "100", "41"]]
     yield "and has a table of them", solved["surplus"] == 3180 and page.browser.run(COUNTED) == [wanted, True]
     yield "and none of them is a claim", not page.value("document.getElementById('answer-claim').checkVisibility()")
+    told = page.ask("range")
+    yield "a range is told by steps of one unit", any("one unit fewer of d-b" in sentence for sentence in told["sentences"])
+    yield "and has a table", page.browser.run(COUNTED) == [[[*row[:5], row[5], row[5]] for row in wanted], True]
+    told = page.ask("firms")
+    yield "what firms have is told in units", told["sentences"][1].startswith("Plant sells 140 units of p-d to Depot at 32 each: worth -3480")
+    yield "and has a table too", page.browser.run(COUNTED)[0][0] == ["Plant", "p-d: 140", "-3480", "1000", "", "0"]
+    page.ask("solve")
     yield "it lies over the network", page.drawn()["lanes"]["p-d"]["isOn"] and "140 at 32" in page.drawn()["lanes"]["p-d"]["says"]
     before = page.text()
     page.click('[data-key="lane:Plant Depot"]')
