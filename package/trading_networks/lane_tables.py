@@ -10,9 +10,10 @@ from .tables import STEPS, Cell, Measure, Row, Table, Trouble, digits, raise_all
 
 Part = TypeVar("Part")
 Read = TypeVar("Read")
-SELLS, MAKES, PASSES_ON, BUYS = ROLES = ("sells", "makes", "passes on", "buys")
+SELLS, MAKES, PASSES_ON, BUYS, MUST_BUY = ROLES = ("sells", "makes", "passes on", "buys", "must buy")
 FIRM_COLUMNS = re.compile(rf"firm|role|capacity|{STEPS}|inputs|outputs|note")
-LANE_COLUMNS = re.compile(rf"from|to|good|by|capacity|{STEPS}|note")
+LANE_COLUMNS = re.compile(rf"from|to|good|by|capacity|{STEPS}|shared|note")
+SHARED = re.compile(r"(.*\S) ?= ?(\S.*)")
 
 
 @dataclass(frozen=True)
@@ -41,6 +42,13 @@ class Firm:
 
 
 @dataclass(frozen=True)
+class Share:
+    """A capacity that a lane has together with others: its name and how much goes by all of them."""
+    name: str
+    most: Measure
+
+
+@dataclass(frozen=True)
 class Lane:
     """A way from a firm to another; `good` and `by` tell lanes between the same two apart."""
     source: str
@@ -50,6 +58,7 @@ class Lane:
     schedule: Schedule
     row: int
     place: str
+    shares: tuple[Share, ...] = ()
 
     @property
     def name(self) -> tuple[str, str, str, str]:
@@ -72,6 +81,12 @@ class Network:
     def schedules(self) -> Iterator[Schedule]:
         yield from (firm.schedule for firm in self.firms)
         yield from (lane.schedule for lane in self.lanes)
+
+    def quantities(self) -> Iterator[Measure]:
+        """All quantities that are said."""
+        for schedule in self.schedules():
+            yield from filter(None, (schedule.capacity, *(step.quantity for step in schedule.steps)))
+        yield from (share.most for lane in self.lanes for share in lane.shares)
 
 
 Named = TypeVar("Named", Firm, Lane)
@@ -123,13 +138,26 @@ def firm_of(row: Row) -> Firm:
     schedule = schedule_of(row)
     if role == BUYS and not row["at 1"].text:
         raise row["at 1"].trouble("it isn't said what a unit is worth to it")
+    if role == MUST_BUY and (schedule.capacity is None or row["at 1"].text):
+        raise row["capacity"].trouble("a firm that must buy has a capacity, and what a unit is worth to it is found")
     return Firm(name, role, schedule, row.number, row.place, goods_of(row["inputs"]), goods_of(row["outputs"]))
 
 
 def lane_of(row: Row) -> Lane:
     source, target = (wanted(row[column], "a lane goes from a firm to a firm") for column in ("from", "to"))
     schedule = schedule_of(row)
-    return Lane(source, target, row["good"].text, row["by"].text, schedule, row.number, row.place)
+    return Lane(source, target, row["good"].text, row["by"].text, schedule, row.number, row.place, shares_of(row["shared"]))
+
+
+def shares_of(cell: Cell) -> tuple[Share, ...]:
+    """Capacities that lanes share, with | between them: each a name and how much."""
+    shares = []
+    for text in filter(None, map(str.strip, cell.text.split("|"))):
+        share = SHARED.fullmatch(text)
+        if share is None:
+            raise cell.trouble(f"{text} is no name with a capacity, such as North gate = 200")
+        shares.append(Share(share[1], Measure(cell.read(share[2]), cell.place)))
+    return tuple(shares)
 
 
 def wanted(cell: Cell, what: str) -> str:
@@ -184,12 +212,12 @@ def not_negative(cell: Cell) -> Optional[Measure]:
 
 
 def lane_troubles(network: Network, lane: Lane) -> Iterator[str]:
-    for end, column, role in ((lane.source, "from", BUYS), (lane.target, "to", SELLS)):
+    for end, column, roles in ((lane.source, "from", (BUYS, MUST_BUY)), (lane.target, "to", (SELLS,))):
         firm = network.by_name.get(end)
         if firm is None:
             yield f"{lane.place} ({column}): {end} is no firm of the other table"
-        elif firm.role == role:
-            yield f"{lane.place} ({column}): {end} only {role}"
+        elif firm.role in roles:
+            yield f"{lane.place} ({column}): {end} only {'buys' if firm.role == MUST_BUY else firm.role}"
     if lane.source == lane.target:
         yield f"{lane.place}: this lane goes from {lane.source} to itself"
 

@@ -14,7 +14,7 @@ from typing import Any, Iterable, Iterator, Mapping, Optional, Union
 
 from . import kinds
 from .kinds import Json, Manner, Steps
-from .lane_tables import BUYS, SELLS, Firm, Lane, Network, Schedule, each
+from .lane_tables import BUYS, MUST_BUY, SELLS, Firm, Lane, Network, Schedule, each
 from .names import codes_of
 from .tables import Measure, Trouble, digits, raise_all
 from .versions import OF_LOTS, Version, version_of_lots
@@ -24,10 +24,12 @@ LARGE = OF_LOTS[-1]
 
 @dataclass(frozen=True)
 class Sizes:
-    """How much a lot is, and a unit of money; where `is_rounded`, what a lot costs is rounded to whole units."""
+    """How much a lot is, and a unit of money; where `is_rounded`, what a lot costs is rounded to whole units. Where trades
+    have units, a lot is one of them."""
     lot: Fraction
     unit: Fraction
     is_rounded: bool = False
+    has_units: bool = False
 
     def lots(self, quantity: Measure) -> int:
         lots = quantity.value / self.lot
@@ -65,6 +67,14 @@ class LotSchedule:
             listed += [amount] * (left if lots is None else min(lots, left))
         return listed
 
+    def cost(self, count: int) -> int:
+        """What the first lots cost together."""
+        total = 0
+        for lots, amount in self.steps:
+            taken = count if lots is None else min(lots, count)
+            total, count = total + taken * amount, count - taken
+        return total
+
     def limited(self) -> Steps:
         """The steps up to the capacity."""
         return kinds.up_to(self.capacity, [(lots, Fraction(amount)) for lots, amount in self.steps])
@@ -77,6 +87,11 @@ class Lot:
     code: str
     lane: Lane
     cost: int
+    schedule: Optional[LotSchedule] = None
+
+    def freight(self, count: int) -> int:
+        """What so many of it cost together."""
+        return count * self.cost if self.schedule is None else self.schedule.cost(count)
 
 
 @dataclass(frozen=True)
@@ -91,16 +106,30 @@ class Built:
 def sizes_of(networks: Iterable[Network], lot: Optional[Fraction], unit: Optional[Fraction], is_rounded: bool) -> Sizes:
     """The sizes that are given; otherwise the largest lot of which all quantities are whole numbers, and the largest of
     1, 0.1, 0.01 and so on of which all that a lot costs is."""
-    schedules = [schedule for network in networks for schedule in network.schedules()]
-    measures = [measure for schedule in schedules
-                for measure in (schedule.capacity, *(step.quantity for step in schedule.steps))]
-    quantities = [measure.value for measure in measures if measure and measure.value]
+    networks = list(networks)
+    quantities = [measure.value for network in networks for measure in network.quantities() if measure.value]
     lot = lot or common_part(quantities) or Fraction(1)
-    if unit is None:
-        amounts = [step.rate.value * lot for schedule in schedules for step in schedule.steps]
-        places = next((k for k in range(10) if all((amount * 10 ** k).denominator == 1 for amount in amounts)), 2)
-        unit = Fraction(1, 10 ** places)
-    return Sizes(lot, unit, is_rounded)
+    return Sizes(lot, unit or unit_for(networks, lot), is_rounded)
+
+
+def sizes_in_units(networks: Iterable[Network], unit: Optional[Fraction], is_rounded: bool) -> Sizes:
+    """Sizes where trades have units: the largest of 1, 0.1, 0.01 and so on of which all quantities are whole numbers, and
+    the unit of money that is given, or found in the same way."""
+    networks = list(networks)
+    lot = decimal_part(measure.value for network in networks for measure in network.quantities())
+    return Sizes(lot, unit or unit_for(networks, lot), is_rounded, True)
+
+
+def unit_for(networks: Iterable[Network], lot: Fraction) -> Fraction:
+    """The unit of money of which all that a lot costs is a whole number."""
+    return decimal_part(step.rate.value * lot for network in networks for schedule in network.schedules()
+                        for step in schedule.steps)
+
+
+def decimal_part(amounts: Iterable[Fraction]) -> Fraction:
+    """The largest of 1, 0.1, 0.01 and so on, to nine digits, of which all are whole numbers; otherwise 0.01."""
+    denominator = math.lcm(*{amount.denominator for amount in amounts})
+    return Fraction(1, 10 ** next((k for k in range(10) if 10 ** k % denominator == 0), 2))
 
 
 def common_part(values: list[Fraction]) -> Fraction:
@@ -129,11 +158,38 @@ def schedules_of(network: Network, sizes: Sizes) -> tuple[dict[str, LotSchedule]
     firm_schedules = each(network.firms, lambda firm: in_lots(firm.schedule, sizes, firm.role == BUYS), troubles)
     lane_schedules = each(network.lanes, lambda lane: in_lots(lane.schedule, sizes, False), troubles)
     raise_all(troubles)
-    return {firm.name: schedule for firm, schedule in zip(network.firms, firm_schedules)}, lane_schedules
+    schedules = {firm.name: schedule for firm, schedule in zip(network.firms, firm_schedules)}
+    served = [firm.name for firm in network.firms if firm.role == MUST_BUY]
+    if served:
+        worth = worth_of_serving(network, schedules, lane_schedules)
+        schedules.update((name, LotSchedule(schedules[name].capacity, ((None, worth),))) for name in served)
+    return schedules, lane_schedules
+
+
+def worth_of_serving(network: Network, schedules: Mapping[str, LotSchedule], lane_schedules: list[LotSchedule]) -> int:
+    """What a lot is worth to a firm that must buy: more than it may cost to send it there, what others lose by it
+    included, but no more than a document has room for.
+
+    A lot comes there by a way that enters and leaves each firm at most once, and costs there no more than the firm itself,
+    the dearest lane to it and the dearest one from it.
+    """
+    by_end: dict[tuple[str, bool], int] = {}
+    for lane, schedule in zip(network.lanes, lane_schedules):
+        for end in ((lane.source, False), (lane.target, True)):
+            by_end[end] = max(by_end.get(end, 0), dearest_of(schedule))
+    return min(1 + sum(map(dearest_of, schedules.values())) + sum(by_end.values()), LARGE.largest)
+
+
+def dearest_of(schedule: LotSchedule) -> int:
+    """The largest amount of a schedule."""
+    return max(abs(amount) for _, amount in schedule.steps)
 
 
 def build(network: Network, sizes: Sizes) -> Built:
     """The document of a network, within the limits of documents."""
+    shared = next((lane for lane in network.lanes if lane.shares), None)
+    if shared is not None:
+        raise Trouble(f"{shared.place} (shared): a capacity that lanes share can't be said in lots")
     schedules, lane_schedules = schedules_of(network, sizes)
     codes = codes_of(((firm.name, firm.row) for firm in network.firms), "firm")
     lots = [lot for lane, schedule in zip(network.lanes, lane_schedules) for lot in lots_of(lane, schedule, schedules)]
@@ -220,7 +276,7 @@ def kind_of(firm: Firm, purchases: kinds.Amounts, sales: kinds.Amounts, steps: S
     """What a firm of a role is; whoever sends a lot pays what its lane costs."""
     if firm.role == SELLS:
         return kinds.seller(sales, steps)
-    return kinds.buyer(purchases, steps) if firm.role == BUYS else kinds.maker(purchases, sales, steps)
+    return kinds.buyer(purchases, steps) if firm.role in (BUYS, MUST_BUY) else kinds.maker(purchases, sales, steps)
 
 
 def hold_small(amount: int, version: Version, place: str) -> None:

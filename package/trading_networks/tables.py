@@ -4,9 +4,9 @@ from __future__ import annotations
 import csv
 import io
 import re
-from dataclasses import dataclass
+from dataclasses import dataclass, replace
 from fractions import Fraction
-from typing import Iterable, Iterator, Optional
+from typing import Container, Iterable, Iterator, Optional
 import unicodedata
 
 SEPARATORS = ",;\t"
@@ -15,6 +15,7 @@ NUMBER = re.compile(rf"[+-]?(\d+|\d{{1,3}}([{BLANKS}]\d{{3}})+)([.,]\d+)?")
 STEPS = r"(quantity|at) [1-9]\d?"
 NUMERIC = re.compile(rf"capacity|value|{STEPS}")
 MARK = "\ufeff"
+NOTE, EVERY = "note", "*"  # the column that isn't looked at; what stands for all other columns
 
 
 TROUBLES = 20  # as many are told at once
@@ -107,8 +108,10 @@ def letter_of(index: int) -> str:
     return (letter_of(index // 26 - 1) if index >= 26 else "") + chr(ord("A") + index % 26)
 
 
-def read_table(path: str, columns: re.Pattern[str], separator: Optional[str] = None, decimal: Optional[str] = None) -> Table:
-    """Reads a table whose first row names its columns, each by a text of `columns`; empty rows are passed over.
+def read_table(path: str, columns: re.Pattern[str], separator: Optional[str] = None, decimal: Optional[str] = None,
+               ignored: Container[str] = ()) -> Table:
+    """Reads a table whose first row names its columns, each by a text of `columns` or one that is ignored; empty rows are
+    passed over.
 
     A separator or a decimal sign that isn't given is seen from the file.
     """
@@ -120,13 +123,19 @@ def read_table(path: str, columns: re.Pattern[str], separator: Optional[str] = N
         lines = list(csv.reader(io.StringIO(text, newline=""), delimiter=separator, strict=True))
     except csv.Error as error:
         raise Trouble(f"{path}: this is no table of cells parted by {separator!r}: {error}") from None
+    form = Form(separator, decimal or "", "\r\n" if "\r\n" in text else "\n", mark)
+    return table_of_lines(path, lines, columns, form, ignored)
+
+
+def table_of_lines(path: str, lines: list[list[str]], columns: re.Pattern[str], form: Form,
+                   ignored: Container[str] = ()) -> Table:
+    """The table of lines of cells, of which the first names the columns. A decimal sign that the form hasn't is seen."""
     if not lines:
         raise Trouble(f"{path}: the file is empty")
-    head = head_of(path, lines[0], columns)
+    head = head_of(path, lines[0], columns, ignored)
     cells = [(k, [plain(cell) for cell in line]) for k, line in enumerate(lines[1:], 2) if any(map(str.strip, line))]
-    decimal = decimal or seen_decimal(head, (line for _, line in cells), separator)
-    form = Form(separator, decimal, "\r\n" if "\r\n" in text else "\n", mark)
-    return Table(path, form, [row_of(path, k, line, head, decimal) for k, line in cells])
+    decimal = form.decimal or seen_decimal(head, (line for _, line in cells), form.separator)
+    return Table(path, replace(form, decimal=decimal), [row_of(path, k, line, head, decimal) for k, line in cells])
 
 
 def text_of(path: str, data: bytes) -> str:
@@ -149,13 +158,15 @@ def seen_decimal(head: list[str], lines: Iterable[list[str]], separator: str) ->
     return "," if separator != "," and is_comma else "."
 
 
-def head_of(path: str, line: list[str], columns: re.Pattern[str]) -> list[str]:
+def head_of(path: str, line: list[str], columns: re.Pattern[str], ignored: Container[str] = ()) -> list[str]:
+    """The names of columns. One that is ignored is a note; where EVERY is, each that isn't in `columns` is."""
     head = [plain(name).lower().replace("_", " ") for name in line]
+    head = [NOTE if name in ignored or (EVERY in ignored and not columns.fullmatch(name)) else name for name in head]
     for k, name in enumerate(head):
         place = f"{path}, row 1, column {letter_of(k)}"
         if name and not columns.fullmatch(name):
             raise Trouble(f"{place}: there is no column {name} in such a table; there are {named(columns)}")
-        if name and name in head[:k]:
+        if name and name != NOTE and name in head[:k]:
             raise Trouble(f"{place}: there is a column {name} already")
     return head
 
