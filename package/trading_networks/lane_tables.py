@@ -11,6 +11,7 @@ from .tables import STEPS, Cell, Measure, Row, Table, Trouble, digits, raise_all
 Part = TypeVar("Part")
 Read = TypeVar("Read")
 SELLS, MAKES, PASSES_ON, BUYS, MUST_BUY = ROLES = ("sells", "makes", "passes on", "buys", "must buy")
+EXPLAINED = "#"  # a row that begins with it isn't read
 FIRM_COLUMNS = re.compile(rf"firm|role|capacity|{STEPS}|inputs|outputs|note")
 LANE_COLUMNS = re.compile(rf"from|to|good|by|capacity|{STEPS}|shared|note")
 SHARED = re.compile(r"(.*\S) ?= ?(\S.*)")
@@ -95,8 +96,8 @@ Named = TypeVar("Named", Firm, Lane)
 def network_of(firms: Table, lanes: Table) -> Network:
     """Reads both tables; the first troubles of them are told together."""
     troubles: list[str] = []
-    read_firms = each(firms.rows, firm_of, troubles)
-    read_lanes = each(lanes.rows, lane_of, troubles)
+    read_firms = each((row for row in firms.rows if not row["firm"].text.startswith(EXPLAINED)), firm_of, troubles)
+    read_lanes = each((row for row in lanes.rows if not row["from"].text.startswith(EXPLAINED)), lane_of, troubles)
     same_names(read_firms, lambda firm: firm.name, troubles)
     same_names(read_lanes, lambda lane: lane.name, troubles)
     network = Network(read_firms, read_lanes)

@@ -7,11 +7,13 @@ from __future__ import annotations
 
 from dataclasses import dataclass, replace
 from fractions import Fraction
-from typing import Iterable, Iterator, Optional
+from functools import cached_property
+from typing import Iterable, Iterator, Mapping, Optional, Union
 
 from trading_networks.lane_tables import SELLS, Firm, Lane, Network, Schedule
-from trading_networks.lanes import Built, Lot, Sizes, build, built_or_why
+from trading_networks.lanes import Built, Lot, Sizes, built_or_why
 from trading_networks.tables import Trouble
+from trading_networks.unit_lanes import made
 from trading_networks.versions import OF_UNITS
 
 from .program import Program
@@ -32,12 +34,16 @@ class Prices:
         return None not in self.of.values()
 
 
+Going = list[tuple[Lot, int]]
+"""What goes: lots, or trades with how many of their units."""
+
+
 @dataclass(frozen=True)
 class Standing:
-    """An equilibrium of a document: which lots go, what all bring together, and the prices; and, where `range` was
-    asked, the lowest and the highest ones."""
+    """An equilibrium of a document: which lots go, or how many units of which trades, what all bring together, and the
+    prices; and, where `range` was asked, the lowest and the highest ones."""
     built: Built
-    on: frozenset[str]
+    on: Mapping[str, int]
     surplus: int
     prices: Prices
     lowest: Optional[Prices] = None
@@ -49,34 +55,59 @@ class Standing:
     def quantity(self, lots: int) -> Fraction:
         return lots * self.built.sizes.lot
 
-    def flow(self, lots: Iterable[Lot]) -> list[Lot]:
-        return [lot for lot in lots if lot.code in self.on]
+    def going(self, lots: Iterable[Lot]) -> Going:
+        return [(lot, self.on[lot.code]) for lot in lots if self.on.get(lot.code)]
 
     def lots_of(self, lane: Lane) -> list[Lot]:
-        return [lot for lot in self.built.lots if lot.lane.name == lane.name]
+        return self._by_lane.get(lane.name, [])
 
-    def sides(self, firm: Firm) -> tuple[list[Lot], list[Lot]]:
-        """The lots that the firm buys, and those that it sells."""
-        going = self.flow(self.built.lots)
-        bought = [lot for lot in going if lot.lane.target == firm.name]
-        return bought, [lot for lot in going if lot.lane.source == firm.name]
+    def flow(self, lane: Lane) -> Fraction:
+        """How much goes by a lane."""
+        return self.quantity(count_of(self.going(self.lots_of(lane))))
+
+    def sides(self, firm: Firm) -> tuple[Going, Going]:
+        """What the firm buys, and what it sells."""
+        bought, sold = (self._by_end.get((firm.name, is_to), []) for is_to in (True, False))
+        return bought, sold
+
+    def used(self, firm: Firm) -> Fraction:
+        """How much of a firm's capacity is used."""
+        bought, sold = self.sides(firm)
+        return self.quantity(count_of(sold if firm.role == SELLS else bought))
+
+    @cached_property
+    def _by_lane(self) -> dict[tuple, list[Lot]]:
+        by_lane: dict[tuple, list[Lot]] = {}
+        for lot in self.built.lots:
+            by_lane.setdefault(lot.lane.name, []).append(lot)
+        return by_lane
+
+    @cached_property
+    def _by_end(self) -> dict[tuple[str, bool], Going]:
+        by_end: dict[tuple[str, bool], Going] = {}
+        for lot, count in self.going(self.built.lots):
+            by_end.setdefault((lot.lane.source, False), []).append((lot, count))
+            by_end.setdefault((lot.lane.target, True), []).append((lot, count))
+        return by_end
+
+
+def count_of(going: Going) -> int:
+    return sum(count for _, count in going)
 
 
 def sizes_in(document: dict) -> Sizes:
     """The sizes of a document that `build` made, which its note keeps."""
     try:
         note = document["note"]
-        return Sizes(Fraction(note["lot"]), Fraction(note["unit"]), note["rounded"])
+        return Sizes(Fraction(note["lot"]), Fraction(note["unit"]), note["rounded"],
+                     document.get("version") == OF_UNITS.number)
     except (TypeError, KeyError, ValueError):
         raise Trouble("the document has no note of its lot and its unit: it isn't one of tools/lanes") from None
 
 
 def built_again(network: Network, document: dict) -> Built:
     """What the codes of a document stand for, which has to be that of the tables."""
-    if document.get("version") == OF_UNITS.number:
-        raise Trouble(f"the document has version {OF_UNITS.number}: its trades have units, and the report is of documents with "
-                      "a trade for each lot")
-    built = build(network, sizes_in(document))
+    built = made(network, sizes_in(document))
     if any(built.document[part] != document.get(part) for part in ("firms", "trades")):
         raise Trouble("the document is not that of these tables: make it again")
     return built
@@ -86,12 +117,17 @@ def solved(built: Built, answer: dict) -> Standing:
     """An answer of `solve`, which has to be one to the document."""
     codes = {lot.code for lot in built.lots}
     try:
-        on, prices, surplus = frozenset(answer["on"]), dict(answer["prices"]), answer["surplus"]
+        on, prices, surplus = counts_in(answer["on"]), dict(answer["prices"]), answer["surplus"]
     except (TypeError, KeyError, ValueError):
         raise Trouble("this is no answer of solve") from None
     if set(prices) != codes or not codes.issuperset(on):
         raise Trouble("the answer of solve is one to another document")
     return Standing(built, on, surplus, Prices(prices))
+
+
+def counts_in(on: list[Union[str, list]]) -> dict[str, int]:
+    """How many units of each trade go, in an answer: a trade that is alone has one."""
+    return dict((entry, 1) if isinstance(entry, str) else (entry[0], entry[1]) for entry in on)
 
 
 def with_ranges(standing: Standing, answer: dict) -> Standing:
@@ -111,13 +147,19 @@ def lane_table(standing: Standing, lanes: Iterable[Lane]) -> Iterator[tuple]:
 
 def lane_cells(standing: Standing, lane: Lane) -> tuple:
     lots = standing.lots_of(lane)
-    going = standing.flow(lots)
+    going = standing.going(lots)
+    shown = [lot for lot, _ in going] or lots
     of_unit = standing.built.sizes.unit / standing.built.sizes.lot
-    prices = bounds_of(standing.prices, going or lots)
-    ranges = bounds_of(standing.lowest, going or lots)[0], bounds_of(standing.highest, going or lots)[1]
-    freight, paid = sum(lot.cost for lot in going), sum(standing.prices.of[lot.code] for lot in going)
+    prices = bounds_of(standing.prices, shown)
+    ranges = bounds_of(standing.lowest, shown)[0], bounds_of(standing.highest, shown)[1]
     for_unit = [price if price is None else price * of_unit for price in (*prices, *ranges)]
-    return standing.quantity(len(going)), *for_unit, standing.money(freight), standing.money(paid)
+    freight, paid = sum(lot.freight(count) for lot, count in going), paid_for(going, standing.prices)
+    return standing.flow(lane), *for_unit, standing.money(freight), standing.money(paid)
+
+
+def paid_for(going: Going, prices: Prices) -> int:
+    """What is paid for all that goes."""
+    return sum(count * prices.of[lot.code] for lot, count in going)
 
 
 def bounds_of(prices: Optional[Prices], lots: list[Lot]) -> tuple[Optional[int], Optional[int]]:
@@ -127,23 +169,41 @@ def bounds_of(prices: Optional[Prices], lots: list[Lot]) -> tuple[Optional[int],
 
 def firm_table(standing: Standing, firms: list[Firm], program: Program) -> Iterator[tuple]:
     """What each firm buys, sells and keeps at the answer's prices, at all lowest and at all highest ones."""
-    yield FIRM_HEAD
+    return firm_rows(standing, firms, kept_at(standing, program))
+
+
+Told = list[Optional[list[dict]]]
+"""What `firms` says of each firm at the answer's prices, at all lowest and at all highest ones; none where there are no
+such prices."""
+
+
+def price_lists(standing: Standing) -> list[Optional[Prices]]:
     lists = (standing.prices, standing.lowest, standing.highest)
-    whole = [prices for prices in lists if prices and prices.are_all_there()]
-    answers = program.ask_each("firms", (with_arrangement(standing, prices) for prices in whole))
-    told = [content_firms(next(answers)) if prices in whole else None for prices in lists]
+    return [prices if prices and prices.are_all_there() else None for prices in lists]
+
+
+def kept_at(standing: Standing, program: Program) -> Told:
+    lists = price_lists(standing)
+    answers = program.ask_each("firms", (with_arrangement(standing, prices) for prices in lists if prices))
+    return [content_firms(next(answers)) if prices else None for prices in lists]
+
+
+def firm_rows(standing: Standing, firms: list[Firm], told: Told) -> Iterator[tuple]:
+    yield FIRM_HEAD
+    lists = price_lists(standing)
     for k, firm in enumerate(firms):
         bought, sold = standing.sides(firm)
         capacity = firm.schedule.capacity and firm.schedule.capacity.value
         cells = [cell for prices, rows in zip(lists, told)
                  for cell in money_cells(standing, prices, rows and rows[k], bought, sold)]
-        yield (firm.name, firm.role, capacity, standing.quantity(len(bought)), standing.quantity(len(sold)),
+        yield (firm.name, firm.role, capacity, standing.quantity(count_of(bought)), standing.quantity(count_of(sold)),
                standing.money(told[0][k]["worth"]), *cells)
 
 
 def with_arrangement(standing: Standing, prices: Prices) -> dict:
-    """The document with the trades that are on, at these prices."""
-    on = [lot.code for lot in standing.flow(standing.built.lots)]
+    """The document with the trades that are on, or with so many units of them, at these prices."""
+    has_units = standing.built.sizes.has_units
+    on = [[lot.code, count] if has_units else lot.code for lot, count in standing.going(standing.built.lots)]
     return {**standing.built.document, "arrangement": {"on": on, "prices": list(prices.of.items())}}
 
 
@@ -155,10 +215,10 @@ def content_firms(answer: dict) -> list[dict]:
     return answer["firms"]
 
 
-def money_cells(standing: Standing, prices: Prices, told: Optional[dict], bought: list[Lot], sold: list[Lot]) -> tuple:
-    if told is None:
+def money_cells(standing: Standing, prices: Optional[Prices], told: Optional[dict], bought: Going, sold: Going) -> tuple:
+    if told is None or prices is None:
         return None, None, None
-    paid, received = (sum(prices.of[lot.code] for lot in lots) for lots in (bought, sold))
+    paid, received = (paid_for(going, prices) for going in (bought, sold))
     return standing.money(paid), standing.money(received), standing.money(told["utility"])
 
 
@@ -182,16 +242,13 @@ def wider_networks(standing: Standing, network: Network) -> Iterator[tuple[tuple
     lot = standing.built.sizes.lot
     for firm in network.firms:
         if firm.schedule.capacity:
-            bought, sold = standing.sides(firm)
-            used = standing.quantity(len(sold if firm.role == SELLS else bought))
             wider = replace(firm, schedule=with_more(firm.schedule, lot))
-            yield ((firm.name, None, None, None, None, firm.schedule.capacity.value, used),
+            yield ((firm.name, None, None, None, None, firm.schedule.capacity.value, standing.used(firm)),
                    Network([wider if each is firm else each for each in network.firms], network.lanes))
     for lane in network.lanes:
         if lane.schedule.capacity:
-            used = standing.quantity(len(standing.flow(standing.lots_of(lane))))
             wider = replace(lane, schedule=with_more(lane.schedule, lot))
-            yield ((None, *lane.name, lane.schedule.capacity.value, used),
+            yield ((None, *lane.name, lane.schedule.capacity.value, standing.flow(lane)),
                    Network(network.firms, [wider if each is lane else each for each in network.lanes]))
 
 

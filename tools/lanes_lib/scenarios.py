@@ -6,11 +6,12 @@ from dataclasses import dataclass, replace
 from typing import Iterator, Optional, Union
 
 from trading_networks.lane_tables import FIRM_COLUMNS, LANE_COLUMNS, Network, network_of
-from trading_networks.lanes import Built, Sizes, built_or_why
+from trading_networks.lanes import Built, Sizes
 from trading_networks.tables import NUMERIC, Cell, Row, Table, Trouble, digits
+from trading_networks.unit_lanes import made_or_why
 
 from .program import Program
-from .report import Standing, content_firms, solved, with_arrangement
+from .report import Standing, content_firms, count_of, solved, with_arrangement
 
 COLUMNS = re.compile(r"scenario|firm|from|to|good|by|change|value|note")
 ALL = "*"
@@ -110,7 +111,7 @@ def new_cell(old: Cell, value: Cell) -> Cell:
 def built_each(scenarios: list[Scenario], sizes: Sizes) -> Iterator[tuple[Scenario, Union[Built, str]]]:
     """Each scenario with its document, or with what is wrong with it."""
     for scenario in scenarios:
-        yield scenario, scenario.trouble or built_or_why(scenario.network, sizes)
+        yield scenario, scenario.trouble or made_or_why(scenario.network, sizes)
 
 
 def results_of(scenarios: list[Scenario], sizes: Sizes, program: Program) -> list[Result]:
@@ -122,10 +123,10 @@ def results_of(scenarios: list[Scenario], sizes: Sizes, program: Program) -> lis
 
 
 def flows(standing: Standing) -> dict[tuple, int]:
-    """How many lots go by each lane by which one goes."""
+    """How many lots, or units, go by each lane by which one goes."""
     counts: dict[tuple, int] = {}
-    for lot in standing.flow(standing.built.lots):
-        counts[lot.lane.name] = counts.get(lot.lane.name, 0) + 1
+    for lot, count in standing.going(standing.built.lots):
+        counts[lot.lane.name] = counts.get(lot.lane.name, 0) + count
     return counts
 
 
@@ -172,7 +173,7 @@ def firm_table(base: Standing, results: list[Result], scenarios: list[Scenario],
     for (result, changed_network), answer in zip(solved_ones, answers):
         kept = kept_by(result.standing, changed_network, answer)
         for firm in changed_network.firms:
-            bought, sold = (base.quantity(len(lots)) for lots in result.standing.sides(firm))
+            bought, sold = (base.quantity(count_of(going)) for going in result.standing.sides(firm))
             yield result.name, firm.name, bought, sold, kept[firm.name], before[firm.name]
 
 

@@ -1,0 +1,2 @@
+def page(found, tables, seconds):
+    return ""
