@@ -30,15 +30,11 @@ class Progress:
         """What is being done now; a task is what stands before the colon."""
         self._text = text
 
-    def seconds(self) -> float:
-        """How long it has taken."""
-        return time.monotonic() - self._begun
-
     def _run(self) -> None:
         wait = AFTER
         while not self._is_over.wait(wait):
             wait = EVERY
-            text = f"lanes: {self.seconds():.0f} s: {self._text}"
+            text = f"lanes: {time.monotonic() - self._begun:.0f} s: {self._text}"
             if self._is_terminal:
                 print(f"\r\x1b[K{text}", end="", file=sys.stderr, flush=True)
             elif self._text.split(":")[0] != self._told:
