@@ -3,7 +3,7 @@ import csv
 import json
 
 from fuzz_lib.documents import spoil
-from fuzz_lib.limits import LIMITS, UNIT_LIMITS, UNIT_VERSION
+from fuzz_lib.limits import LIMITS, SETS, UNIT_LIMITS, UNIT_VERSION
 from fuzz_lib.programs import ASKED, LAYOUTS, want
 from fuzz_lib.unit_documents import at_unit_limit, change_units, draw_arrangement
 from fuzz_lib.unit_network import UnitNetwork, units_as_trades
@@ -194,7 +194,7 @@ def is_room_for(document):
     """Whether a document of version 3 has room for own trades and values."""
     own = [end for trade in document["trades"] for end in (trade["seller"], trade["buyer"])]
     sets = [part for firm in document["firms"] for part in firm["sets"]]
-    return all(own.count(firm["name"]) <= MOST_OWN for firm in document["firms"]) and all(
+    return all(own.count(firm["name"]) <= MOST_OWN and len(firm["sets"]) <= SETS for firm in document["firms"]) and all(
         abs(value) <= LIMITS[3].amount for part in sets for value in part["values"])
 
 
