@@ -185,7 +185,7 @@ function moved(value, from, to, named) {
 function documentOf(name, bytes) {
     const isWhole = bytes.length <= MOST_SHOWN, shown = isWhole ? bytes : bytes.subarray(0, BEGINNING);
     const text = new TextDecoder("utf-8", {ignoreBOM: true}).decode(shown), document = {name, bytes, text, isWhole, exercise: null, tries: 0};
-    document.exercise = isWhole && !isCounted({document}) ? exerciseIn(networkOf(document)) : null; // (nobody guesses where trades have units)
+    document.exercise = isWhole && !isCounted({document}) ? exerciseIn(networkOf(document)) : null;
     return document;
 }
 
