@@ -131,3 +131,33 @@ def least_path(arcs):
         path.append(last[at])
         at = arcs[last[at]][0]
     return path, costs["sink"]
+
+
+SIZES = {120: ((8, 6, 6, 16), (30, 30, 60), 3_048), 2_000: ((60, 40, 60, 200), (500, 500, 1_000), 90_000)}
+"""Of a drawn chain by its lanes: how many firms of each role, how many lanes from each to the next, and how much goes."""
+
+
+def chain_tables(draw, size):
+    """Both tables of a chain of works, plants, depots and customers; of 2,000 lanes all have 400,000 units."""
+    counts, ways, amount = SIZES[size]
+    names = [[f"{word} {k}" for k in range(1, count + 1)]
+             for word, count in zip(("Works", "Plant", "Depot", "Customer"), counts)]
+
+    def rate(low, high):
+        return f"{draw.randint(low * 100, high * 100) / 100:.2f}"
+
+    kinds = (("sells", 100, 60, (400, 460), (461, 500)), ("makes", 110, 80, (60, 80), (81, 99)),
+             ("passes on", 120, 50, (4, 6), (7, 9)), ("buys", 100, 50, (700, 760), (560, 690)))
+    firms = []
+    for listed, (role, part, first, *rates) in zip(names, kinds):
+        most = amount * part // 100 // len(listed)
+        firms += [[name, role, most, most * first // 100, rate(*rates[0]), "", rate(*rates[1])] for name in listed]
+    lanes = []
+    for sources, targets, count in zip(names, names[1:], ways):
+        pairs = sorted(draw.sample([(source, target) for source in sources for target in targets], count))
+        for pair in pairs:
+            most = draw.randint(100, 300) if size == 2_000 else draw.randint(60, 250)
+            lanes.append([*pair, most, most // 2, rate(5, 40), "", rate(41, 55)])
+    steps = ["capacity", "quantity 1", "at 1", "quantity 2", "at 2"]
+    return tuple("\n".join(",".join(map(str, row)) for row in (head, *rows)) + "\n"
+                 for head, rows in ((["firm", "role", *steps], firms), (["from", "to", *steps], lanes)))

@@ -63,7 +63,7 @@ def shared_of(name: str, pairs: list[tuple[Lane, Share]], sizes: Sizes, troubles
     elif all(lane.target == first.target for lane in lanes):
         yield Shared(name, first.target, True, lanes, sizes.lots(measure), measure)
     else:
-        other = next(lane for lane in lanes if first.source != lane.source or first.target != lane.target)
+        other = next(lane for lane in lanes if lane.source != first.source)
         troubles.append(f"{other.place} (shared): {name} is of row {first.row} too, and no firm sends by all of its lanes, or "
                         "gets by all of them")
 
