@@ -30,9 +30,10 @@ def arcs_of(network, lot, unit):
         for most, rate in steps(firm.schedule):
             yield Arc(source, target, most, -rate if firm.role == "buys" else rate)
     for lane in network.lanes:
-        for most, rate in steps(lane.schedule):
+        listed = list(steps(lane.schedule))
+        for most, rate in listed:
             yield Arc((lane.source, "out"), lane.name, most, rate)
-        yield Arc(lane.name, (lane.target, "in"), FAR, 0)
+        yield Arc(lane.name, (lane.target, "in"), sum(most for most, _ in listed), 0)
 
 
 def by_scipy(network, lot, unit):

@@ -52,7 +52,7 @@ test("what is wrong in tables is told at its cell", () => {
 test("the examples of tables become what tools/lanes makes of them", () => {
     for (const [firms, lanes, ...options] of [["firms", "lanes", "--lot", "20", "--unit", "1"], ["firms", "lanes"], ["chain-firms", "chain-lanes", "--lot", "10"]]) {
         const paths = [firms, lanes].map((name) => `examples/lanes/${name}.csv`), [one, other] = paths.map(read);
-        const {stdout} = spawnSync(fileURLToPath(new URL("tools/lanes", HOME)), ["document", ...paths, ...options], {cwd: fileURLToPath(HOME), encoding: "utf8"});
+        const {stdout} = spawnSync(fileURLToPath(new URL("tools/lanes", HOME)), ["document", ...paths, ...options, ...options.includes("--lot") ? [] : ["--lot"]], {cwd: fileURLToPath(HOME), encoding: "utf8"});
         assert.equal(madeOf({firms: one, lanes: other}, options), stdout, paths[0]);
     }
 });
