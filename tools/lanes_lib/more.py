@@ -20,6 +20,7 @@ from .report import Standing
 
 HEAD = ("firm", "from", "to", "good", "by", "shared", "capacity", "one more brings", "for so many more", "remark")
 AHEAD = 2  # as many documents are with the program at once
+LEAST_WAIT = 1  # seconds in which a small document is answered in any case
 
 
 @dataclass
@@ -114,10 +115,13 @@ def ask_more(standing: Standing, counting: Counting, program: Program, seconds: 
 
     for _ in range(AHEAD):
         send()
-    answers = program.ask_each("solve", iter(sent.get, None))
+    answers = program.ask_each("solve", iter(sent.get, None), max(seconds, LEAST_WAIT))
     while asked:
+        answer = next(answers, None)
+        if answer is None:
+            break
         each, more = asked.popleft()
-        each.hear(more, next(answers)["surplus"] - standing.surplus)
+        each.hear(more, answer["surplus"] - standing.surplus)
         progress.say(f"one more unit: {sum(one.next() is None for one in found)} of {len(found)} capacities")
         waiting.append(each)
         send()

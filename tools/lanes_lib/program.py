@@ -20,13 +20,16 @@ class Program:
         except market.MarketError as error:
             raise Trouble(f"{self.path} {command}: {error}") from None
 
-    def ask_each(self, command: str, documents: Iterable[market.Asked]) -> Iterator[dict]:
-        """The answers to documents, in their order, by one process; it is raised where one has no verdict."""
+    def ask_each(self, command: str, documents: Iterable[market.Asked], seconds: Optional[float] = None) -> Iterator[dict]:
+        """The answers to documents, in their order, by one process; it is raised where one has no verdict. They end where
+        one takes longer than so many seconds."""
         try:
-            for answer in market.stream(command, documents, program=self.path):
+            for answer in market.stream(command, documents, program=self.path, timeout=seconds):
                 if isinstance(answer, market.MarketError):
                     raise answer
                 yield answer.said
+        except market.TimedOut:
+            return
         except market.MarketError as error:
             raise Trouble(f"{self.path} {command}: {error}") from None
 
