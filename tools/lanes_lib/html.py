@@ -50,7 +50,7 @@ def bars(rows: dict[str, list[dict]]) -> Iterator[str]:
     kept = [(row["firm"], row["kept"], ends(row["kept at lowest"], row["kept at highest"]))
             for row in rows.get("firms", ()) if row["kept"] is not None]
     yield figure("What each firm keeps, and between which bounds", sorted(kept, key=lambda bar: -bar[1]))
-    prices = [(name_of(row), row["price from"], ends(row["lowest"], row["highest"])) for row in by_paid(rows["lanes"])]
+    prices = [(name_of(row), row["price"], ends(row["lowest"], row["highest"])) for row in by_paid(rows["lanes"])]
     yield figure("Prices of the lanes by which most is paid, and between which bounds", prices)
 
 
@@ -74,7 +74,7 @@ def figure(title: str, listed: Sequence[pictures.Bar]) -> str:
 def all_tables(rows: dict[str, list[dict]]) -> Iterator[str]:
     """The tables, of which the largest are cut to their first rows."""
     going = by_paid(rows["lanes"])
-    columns = ("from", "to", "good", "by", "flow", "capacity", "price from", "lowest", "highest", "paid")
+    columns = ("from", "to", "good", "by", "flow", "capacity", "price", "lowest", "highest", "paid")
     yield '<div class="lanes">' + table("Lanes by which something goes", going, columns) + "</div>"
     columns = ("firm", "role", "capacity", "bought", "sold", "worth", "paid", "received", "kept", "kept at lowest", "kept at highest")
     yield table("Firms", rows.get("firms", []), columns)

@@ -20,6 +20,7 @@ from .program import Program
 
 LANE_HEAD = ("from", "to", "good", "by", "capacity", "flow", "price from", "price to", "lowest", "highest", "freight",
              "paid")
+UNIT_HEAD = tuple("price" if name == "price from" else name for name in LANE_HEAD if name != "price to")
 FIRM_HEAD = ("firm", "role", "capacity", "bought", "sold", "worth", "paid", "received", "kept", "paid at lowest",
              "received at lowest", "kept at lowest", "paid at highest", "received at highest", "kept at highest")
 CAPACITY_HEAD = ("firm", "from", "to", "good", "by", "capacity", "used", "one more lot brings", "remark")
@@ -138,8 +139,8 @@ def with_ranges(standing: Standing, answer: dict) -> Standing:
 
 
 def lane_table(standing: Standing, lanes: Iterable[Lane]) -> Iterator[tuple]:
-    """What goes by each lane, and the price for a unit, from that of the cheapest lot to that of the dearest."""
-    yield LANE_HEAD
+    """What goes by each lane, and the price for a unit; in lots from that of the cheapest lot to that of the dearest."""
+    yield UNIT_HEAD if standing.built.sizes.has_units else LANE_HEAD
     for lane in lanes:
         capacity = lane.schedule.capacity and lane.schedule.capacity.value
         yield (*lane.name, capacity, *lane_cells(standing, lane))
@@ -150,7 +151,7 @@ def lane_cells(standing: Standing, lane: Lane) -> tuple:
     going = standing.going(lots)
     shown = [lot for lot, _ in going] or lots
     of_unit = standing.built.sizes.unit / standing.built.sizes.lot
-    prices = bounds_of(standing.prices, shown)
+    prices = bounds_of(standing.prices, shown)[standing.built.sizes.has_units:]
     ranges = bounds_of(standing.lowest, shown)[0], bounds_of(standing.highest, shown)[1]
     for_unit = [price if price is None else price * of_unit for price in (*prices, *ranges)]
     freight, paid = sum(lot.freight(count) for lot, count in going), paid_for(going, standing.prices)
