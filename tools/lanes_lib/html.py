@@ -16,7 +16,7 @@ STYLE = """
 body{font:13px/1.35 system-ui,sans-serif;margin:1.5em auto;max-width:1100px;color:#1a1a1a;background:#fff}
 h1{font-size:1.5em;margin:0 0 .2em}h2{font-size:1.1em;margin:1em 0 .3em}p{margin:.3em 0;color:#444}
 dl{display:flex;flex-wrap:wrap;gap:.3em 2em;margin:.6em 0}dt{color:#555}dd{margin:0;font-weight:600;font-size:1.15em}
-.two{display:grid;grid-template-columns:1fr 1fr;gap:0 2em}svg{width:100%;height:auto;display:block}
+.figures{display:grid;grid-template-columns:repeat(3,1fr);gap:0 1.5em}svg{width:100%;height:auto;display:block}
 table{border-collapse:collapse;width:100%;font-variant-numeric:tabular-nums}caption{text-align:left;font-weight:600}
 th{text-align:left;border-bottom:1px solid #888;font-weight:600}td,th{padding:.1em .6em .1em 0;vertical-align:top}
 td.n,th.n{text-align:right}tr:nth-child(even) td{background:#f4f6f8}
@@ -34,7 +34,7 @@ def page(found: Answered, tables: dict[str, list[tuple]]) -> str:
         '<meta name="viewport" content="width=device-width">', f"<title>Flows and prices: {count}</title>",
         f"<style>{STYLE}</style>", "<h1>Flows and prices</h1>", f"<p>{count}. At these prices each firm's plan is its best, and no "
         "other plan brings all together more.</p>", totals(tables["totals"]),
-        "<h2>What goes where</h2>", pictures.network(found), '<div class="two">',
+        "<h2>What goes where</h2>", pictures.network(found), '<div class="figures">',
         *bars(rows), "</div>", '<div class="tables">', *all_tables(rows), "</div>", "</html>", ""))
 
 

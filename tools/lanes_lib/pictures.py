@@ -72,7 +72,7 @@ def bars(listed: Sequence[Bar], number: Callable[[Fraction], str]) -> str:
     """A bar for each, from 0, and a thin line between its bounds."""
     ends = [end for _, value, bounds in listed for end in (value, *(bounds or ()))]
     low, high = min(Fraction(0), *ends), max(Fraction(0), *ends)
-    left, width, height = 190, 210, 16
+    left, width, height = 170, 190, 16
     scale = width / float(high - low or 1)
 
     def at(value: Fraction) -> float:
@@ -81,14 +81,14 @@ def bars(listed: Sequence[Bar], number: Callable[[Fraction], str]) -> str:
     parts = []
     for k, (name, value, bounds) in enumerate(listed):
         y, x = k * height, min(at(value), at(Fraction(0)))
-        parts.append(f'<text x="{left - 6}" y="{y + 11}" text-anchor="end" font-size="10">{escape(short(name, 34))}</text>'
+        parts.append(f'<text x="{left - 6}" y="{y + 11}" text-anchor="end" font-size="10">{escape(short(name, 32))}</text>'
                      f'<rect x="{x:.1f}" y="{y + 3}" width="{abs(at(value) - at(Fraction(0))):.1f}" height="9" fill="{INK}"/>')
         if bounds and bounds[0] != bounds[1]:
             parts.append(f'<path d="M{at(bounds[0]):.1f} {y + 7.5}H{at(bounds[1]):.1f}M{at(bounds[0]):.1f} {y + 4}v7'
                          f'M{at(bounds[1]):.1f} {y + 4}v7" stroke="{FULL}" stroke-width="1.5"/>')
         said = number(value) + (f" ({number(bounds[0])} to {number(bounds[1])})" if bounds and bounds[0] != bounds[1] else "")
         parts.append(f'<text x="{left + width + 6}" y="{y + 11}" font-size="9.5">{said}</text>')
-    return f'<svg viewBox="0 0 560 {len(listed) * height + 2}" role="img">{"".join(parts)}</svg>'
+    return f'<svg viewBox="0 0 540 {len(listed) * height + 2}" role="img">{"".join(parts)}</svg>'
 
 
 def short(name: str, most: int) -> str:
