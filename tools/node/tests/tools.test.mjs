@@ -102,9 +102,9 @@ test("the modules of page/ take nothing that node alone has", () => {
     }
 });
 
-test("without the module the page has at most 900,000 bytes", () => {
+test("without the module the page has at most 950,000 bytes", () => {
     const page = readFileSync(join(HOME, "page/market.html"), "utf8"), [, module] = page.match(/<script type="text\/plain" id="program">([^<]*)</);
-    assert.ok(Buffer.byteLength(page) - module.length <= 900000);
+    assert.ok(Buffer.byteLength(page) - module.length <= 950000);
     assert.ok(module.length > 100000);
 });
 
