@@ -214,7 +214,7 @@ def built_or_why(network: Network, sizes: Sizes) -> Union[Built, str]:
         return str(trouble)
 
 
-def most_by(lane: Lane, schedule: LotSchedule, schedules: dict[str, LotSchedule]) -> int:
+def most_by(lane: Lane, schedule: LotSchedule, schedules: Mapping[str, LotSchedule]) -> int:
     """How many lots may go by the lane, but no more than one above what either of its firms could send or take.
 
     That one stays off, and at its price nobody wants a further lot; those after it would hold no other price.

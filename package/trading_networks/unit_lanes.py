@@ -4,11 +4,11 @@ from __future__ import annotations
 
 from dataclasses import dataclass, field, replace
 from fractions import Fraction
-from typing import Iterable, Mapping, Optional, Union
+from typing import Iterable, Mapping, Union
 
 from . import kinds
 from .kinds import Counted, Json, Laminar, Manner
-from .lane_tables import BUYS, MUST_BUY, SELLS, Firm, Lane, Network
+from .lane_tables import MUST_BUY, Firm, Lane, Network
 from .lanes import Built, Lot, LotSchedule, Sizes, build, kind_of, most_by, schedules_of
 from .names import codes_of
 from .shares import Shared, shared_sets

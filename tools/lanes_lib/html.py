@@ -32,8 +32,9 @@ def page(found: Answered, tables: dict[str, list[tuple]]) -> str:
     return "\n".join((
         "<!doctype html>", '<html lang="en">', '<meta charset="utf-8">',
         '<meta name="viewport" content="width=device-width">', f"<title>Flows and prices: {count}</title>",
-        f"<style>{STYLE}</style>", "<h1>Flows and prices</h1>", f"<p>{count}. At these prices each firm's plan is its best, and no "
-        "other plan brings all together more.</p>", totals(tables["totals"]),
+        f"<style>{STYLE}</style>", "<h1>Flows and prices</h1>",
+        f"<p>{count}. At these prices each firm's plan is its best, and no other plan brings all together more.</p>",
+        totals(tables["totals"]),
         "<h2>What goes where</h2>", pictures.network(found), '<div class="figures">',
         *bars(rows), "</div>", '<div class="tables">', *all_tables(rows), "</div>", "</html>", ""))
 
@@ -76,7 +77,8 @@ def all_tables(rows: dict[str, list[dict]]) -> Iterator[str]:
     going = by_paid(rows["lanes"])
     columns = ("from", "to", "good", "by", "flow", "capacity", "price", "lowest", "highest", "paid")
     yield '<div class="lanes">' + table("Lanes by which something goes", going, columns) + "</div>"
-    columns = ("firm", "role", "capacity", "bought", "sold", "worth", "paid", "received", "kept", "kept at lowest", "kept at highest")
+    columns = ("firm", "role", "capacity", "bought", "sold", "worth", "paid", "received", "kept", "kept at lowest",
+               "kept at highest")
     yield table("Firms", rows.get("firms", []), columns)
     columns = ("firm", "from", "to", "good", "by", "shared", "capacity", "one more brings", "for so many more", "remark")
     yield table("Capacities that are used up", rows["capacities"], columns)

@@ -5,10 +5,10 @@ import pathlib
 import re
 import zipfile
 from decimal import Decimal
+from fractions import Fraction
 from typing import Any, Container, Optional
 
 from trading_networks.tables import Form, Table, Trouble, digits, read_table, table_of_lines
-from fractions import Fraction
 
 MOST_DIGITS = 18
 MOST_REPEATED = 100  # as many cells that are one in a file are taken; more are empty ones to the end of a sheet
