@@ -2,6 +2,7 @@
 brings, and totals. What the program can say, it is asked."""
 from __future__ import annotations
 
+import time
 from dataclasses import dataclass
 from fractions import Fraction
 from typing import Iterator, Optional
@@ -17,6 +18,7 @@ from .progress import Progress
 from .report import Standing, Told
 
 TOTAL_HEAD = ("total", "value")
+FEW = 3  # as many questions have to have time, or none is asked
 
 
 @dataclass(frozen=True)
@@ -31,13 +33,16 @@ class Answered:
 
 
 def answered(network: Network, sizes: Sizes, program: Program, seconds: float, progress: Progress) -> Answered:
-    """Asks the program all of a network in units; for what one more brings there are so many seconds."""
+    """Asks the program all of a network in units; for what one more brings there are so many seconds, and none is asked
+    where there is no time for a few."""
     progress.say("reading")
     counted = counting(network, sizes)
     built = counted.built()
     progress.say(f"solve: {len(network.firms)} firms, {len(built.lots)} lanes, "
                  f"{sum(trade['units'] for trade in built.document['trades']):,} units")
-    standing, untold, told = report.solved(built, program.run("solve", built.document)), [], None
+    begun, untold, told = time.monotonic(), [], None
+    standing = report.solved(built, program.run("solve", built.document))
+    has_time = FEW * (time.monotonic() - begun) < seconds
     progress.say("range: how far each price may go")
     try:
         standing = report.with_ranges(standing, program.run("range", built.document))
@@ -49,7 +54,7 @@ def answered(network: Network, sizes: Sizes, program: Program, seconds: float, p
     except Trouble as trouble:
         untold.append(f"what each firm keeps isn't told: {trouble}")
     progress.say("one more unit: begun")
-    scarce = more.ask_more(standing, counted, program, seconds, progress)
+    scarce = more.ask_more(standing, counted, program, seconds if has_time else 0, progress)
     return Answered(network, standing, told, scarce, untold, built.document["note"])
 
 
@@ -110,5 +115,5 @@ def late(found: Answered, seconds: float) -> Iterator[str]:
     """What is told where there was no time for all capacities."""
     count = sum(each.next() is not None for each in found.scarce)
     if count:
-        yield (f"one more unit: {count} of {len(found.scarce)} capacities that are used up weren't asked to the end in "
-               f"{seconds:g} s; --seconds gives more")
+        yield (f"one more unit: {count} of {len(found.scarce)} capacities that are used up weren't asked to the end, for "
+               f"which {seconds:g} s are too few; --seconds gives more")
