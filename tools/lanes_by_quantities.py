@@ -94,6 +94,8 @@ def try_new(room, count):
         (room.folder / name).unlink(missing_ok=True)
     count.same("new tables", 0, room.run("new")[0])
     count.same("they are not written over", (1, True), (room.run("new")[0], "File exists" in room.run("new")[2]))
+    status, text, told = room.run("solve", "firms.csv", "lanes.csv", "--html", "report.html")
+    count.same("tables without a firm", (0, True), (status, text.startswith("total,value\nsurplus,0\n")))
     for name, row in (("firms.csv", "S,sells,5,,1,,,\nB,buys,3,,4,,,\n"), ("lanes.csv", "S,B,,,,,,,\n")):
         room.put(name, (room.folder / name).read_text() + row)
     status, text, told = room.run("solve", "firms.csv", "lanes.csv", "--html", "report.html")

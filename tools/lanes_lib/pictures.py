@@ -26,7 +26,7 @@ def network(found: Answered) -> str:
     going = sorted(((lane, flow) for lane, flow in flows if flow), key=lambda pair: -pair[1])
     shown, most = going[:MOST_LANES], max((flow for _, flow in going), default=Fraction(1))
     columns = columns_of(found.network)
-    rows = max(map(len, columns))
+    rows = max(map(len, columns), default=1)
     places = {firm.name: (k, (n + 0.5) * rows * ROW / len(column)) for k, column in enumerate(columns)
               for n, firm in enumerate(column)}
     step = (WIDTH - BOX) / max(len(columns) - 1, 1)
