@@ -104,6 +104,24 @@ def try_new(room, count):
     count.note("a page of it", "<svg" in page and "What one more unit" in page and "http" not in page, page[:300])
 
 
+def try_asking(room, count, program):
+    """One process is asked all questions about one more unit; what takes longer is told while it does; and a column that
+    nobody knows is told with what passes it over."""
+    counted = room.folder / "counted"
+    counted.write_text(f'#!/bin/sh\necho "$@" >> "{room.folder}/starts"\n[ "$*" = solve ] && sleep 3\nexec "{program.path}" "$@"\n')
+    counted.chmod(0o755)
+    (room.folder / "starts").unlink(missing_ok=True)
+    found = Report(room, ONE.replace("12.5", "8.5"), "from,to\nS,B\n", "--market", str(counted), "--seconds", "60")
+    count.same("processes for a report", ["solve", "range", "firms --lines", "solve --lines"],
+               (room.folder / "starts").read_text().splitlines())
+    count.note("what takes longer is told", "lanes: 2 s: solve: 2 firms, 1 lanes" in found.told, found.told)
+    found = Report(room, ONE.replace("12.5", "8.5"), "from,to\nS,B\n", "--market", str(counted), "--seconds", "1")
+    count.note("where there is no time for questions", "1 of 1 capacities" in found.told and
+               found.scarce.get("S", {}).get("remark") == "not asked in time", found.told)
+    told = Report(room, ONE, "from,to,plant\nS,B,y\n").told
+    count.note("what passes a column over", "--ignore passes over a column" in told, told)
+
+
 def try_workbooks(room, count):
     """The same tables as workbooks say the same; where their readers aren't, that is told."""
     tables = {"firms": ONE, "lanes": "from,to,capacity\nS,B,9.3\n"}
@@ -228,6 +246,7 @@ def try_chain(room, count, program, size, seconds):
 def try_all(room, count, program, draw, number, is_large):
     for each in (try_one, try_served, try_shared, try_new, try_workbooks):
         each(room, count)
+    try_asking(room, count, program)
     try_random_quantities(room, count, program, draw, number)
     try_chain(room, count, program, 120, 2)
     if is_large:
