@@ -100,7 +100,7 @@ def make_units(draw, examples):
 
 def draw_arrangement(draw, document, counts, prices):
     """Units and prices near the given ones, 0 where none is given."""
-    units = {trade["name"]: trade.get("units", 1) for trade in document["trades"]}
+    units = {trade["name"]: max(0, trade.get("units", 1)) for trade in document["trades"]}  # (numbers may have been changed)
     turned, moved = draw.choice([0, 0.1, 0.5]), draw.choice([0, 0.1, 0.5])
 
     def near(name, most):
