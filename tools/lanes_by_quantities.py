@@ -108,12 +108,13 @@ def try_asking(room, count, program):
     """One process is asked all questions about one more unit; what takes longer is told while it does; and a column that
     nobody knows is told with what passes it over."""
     counted = room.folder / "counted"
-    counted.write_text(f'#!/bin/sh\necho "$@" >> "{room.folder}/starts"\n[ "$*" = solve ] && sleep 3\nexec "{program.path}" "$@"\n')
+    counted.write_text(f'#!/bin/sh\necho "$@" >> "{room.folder}/starts"\n[ "$*" = solve ] && sleep 3\n'
+                       f'exec "{program.path}" "$@"\n')
     counted.chmod(0o755)
     (room.folder / "starts").unlink(missing_ok=True)
     found = Report(room, ONE.replace("12.5", "8.5"), "from,to\nS,B\n", "--market", str(counted), "--seconds", "60")
-    count.same("processes for a report", ["solve", "range", "firms --lines", "solve --lines"],
-               (room.folder / "starts").read_text().splitlines())
+    count.same("processes for a report", ["firms", "range", "solve", "solve --lines"],
+               sorted((room.folder / "starts").read_text().splitlines()))
     count.note("what takes longer is told", "lanes: 2 s: solve: 2 firms, 1 lanes" in found.told, found.told)
     found = Report(room, ONE.replace("12.5", "8.5"), "from,to\nS,B\n", "--market", str(counted), "--seconds", "1")
     count.note("where there is no time for questions", "1 of 1 capacities" in found.told and
@@ -193,7 +194,7 @@ def try_random_quantities(room, count, program, draw, number):
         standing = report.solved(built, program.run("solve", built.document))
         count.same(f"quantities {k}: surplus", best_surplus(lot, firms, lanes), standing.money(standing.surplus))
         if has_scipy:
-            try_prices(count, f"quantities {k}", network, standing, program)
+            try_kept(count, f"quantities {k}", network, try_prices(count, f"quantities {k}", network, standing, program), program)
         if k % 5 == 0:
             try_more(count, f"quantities {k}", standing, counted, program)
 
@@ -207,11 +208,21 @@ def try_prices(count, name, network, standing, program):
         ranged = report.with_ranges(standing, program.run("range", standing.built.document))
     except Trouble as trouble:
         print(f"{name}: no bounds of prices are held to scipy: {trouble}")
-        return
+        return standing
     for lane, *wanted in zip(network.lanes, in_money(lows, sizes.lot, sizes.unit), in_money(highs, sizes.lot, sizes.unit)):
         found = [(ranged.lowest.of[lot.code], ranged.highest.of[lot.code]) for lot in standing.lots_of(lane)]
         if found:
             count.same(f"{name}: {lane}", wanted, in_money(found[0], sizes.lot, sizes.unit))
+    return ranged
+
+
+def try_kept(count, name, network, standing, program):
+    """What firms keep at all lowest prices, and at all highest ones, is what `firms` says there, and all are content."""
+    head, *rows = report.firm_table(standing, network.firms, program)
+    for prices, side in ((standing.prices, "kept"), (standing.lowest, "kept at lowest"), (standing.highest, "kept at highest")):
+        if prices is not None and prices.are_all_there():
+            told = report.content_firms(program.run("firms", report.with_arrangement(standing, prices)))
+            count.same(f"{name}: {side}", [standing.money(firm["utility"]) for firm in told], [row[head.index(side)] for row in rows])
 
 
 def try_more(count, name, standing, counted, program):

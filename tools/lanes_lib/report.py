@@ -170,35 +170,24 @@ def bounds_of(prices: Optional[Prices], lots: list[Lot]) -> tuple[Optional[int],
 
 def firm_table(standing: Standing, firms: list[Firm], program: Program) -> Iterator[tuple]:
     """What each firm buys, sells and keeps at the answer's prices, at all lowest and at all highest ones."""
-    return firm_rows(standing, firms, kept_at(standing, program))
+    return firm_rows(standing, firms, worths_of(standing, program))
 
 
-Told = list[Optional[list[dict]]]
-"""What `firms` says of each firm at the answer's prices, at all lowest and at all highest ones; none where there are no
-such prices."""
+def worths_of(standing: Standing, program: Program) -> list[int]:
+    """What each firm has before any price is paid, as `firms` says; all have to be content."""
+    answer = program.run("firms", with_arrangement(standing, standing.prices))
+    return [firm["worth"] for firm in content_firms(answer)]
 
 
-def price_lists(standing: Standing) -> list[Optional[Prices]]:
-    lists = (standing.prices, standing.lowest, standing.highest)
-    return [prices if prices and prices.are_all_there() else None for prices in lists]
-
-
-def kept_at(standing: Standing, program: Program) -> Told:
-    lists = price_lists(standing)
-    answers = program.ask_each("firms", (with_arrangement(standing, prices) for prices in lists if prices))
-    return [content_firms(next(answers)) if prices else None for prices in lists]
-
-
-def firm_rows(standing: Standing, firms: list[Firm], told: Told) -> Iterator[tuple]:
+def firm_rows(standing: Standing, firms: list[Firm], worths: list[int]) -> Iterator[tuple]:
     yield FIRM_HEAD
-    lists = price_lists(standing)
-    for k, firm in enumerate(firms):
+    for firm, worth in zip(firms, worths):
         bought, sold = standing.sides(firm)
         capacity = firm.schedule.capacity and firm.schedule.capacity.value
-        cells = [cell for prices, rows in zip(lists, told)
-                 for cell in money_cells(standing, prices, rows and rows[k], bought, sold)]
+        cells = [cell for prices in (standing.prices, standing.lowest, standing.highest)
+                 for cell in money_cells(standing, prices, worth, bought, sold)]
         yield (firm.name, firm.role, capacity, standing.quantity(count_of(bought)), standing.quantity(count_of(sold)),
-               standing.money(told[0][k]["worth"]), *cells)
+               standing.money(worth), *cells)
 
 
 def with_arrangement(standing: Standing, prices: Prices) -> dict:
@@ -216,11 +205,12 @@ def content_firms(answer: dict) -> list[dict]:
     return answer["firms"]
 
 
-def money_cells(standing: Standing, prices: Optional[Prices], told: Optional[dict], bought: Going, sold: Going) -> tuple:
-    if told is None or prices is None:
+def money_cells(standing: Standing, prices: Optional[Prices], worth: int, bought: Going, sold: Going) -> tuple:
+    """What is paid and received at prices, and what is kept: the worth and what is received, less what is paid."""
+    if prices is None or not prices.are_all_there():
         return None, None, None
     paid, received = (paid_for(going, prices) for going in (bought, sold))
-    return standing.money(paid), standing.money(received), standing.money(told["utility"])
+    return standing.money(paid), standing.money(received), standing.money(worth + received - paid)
 
 
 def capacity_table(standing: Standing, network: Network, program: Program) -> Iterator[tuple]:

@@ -3,6 +3,7 @@ brings, and totals. What the program can say, it is asked."""
 from __future__ import annotations
 
 import time
+from concurrent.futures import ThreadPoolExecutor
 from dataclasses import dataclass
 from fractions import Fraction
 from typing import Iterator, Optional
@@ -15,7 +16,7 @@ from trading_networks.unit_lanes import counting
 from . import more, report
 from .program import Program
 from .progress import Progress
-from .report import Standing, Told
+from .report import Standing
 
 TOTAL_HEAD = ("total", "value")
 FEW = 3  # as many questions have to have time, or none is asked
@@ -26,7 +27,7 @@ class Answered:
     """What the program answered of a network; `untold` is why it said nothing of ranges or of what firms keep."""
     network: Network
     standing: Standing
-    told: Optional[Told]
+    worths: Optional[list[int]]
     scarce: list[more.Scarce]
     untold: list[str]
     note: dict
@@ -40,22 +41,24 @@ def answered(network: Network, sizes: Sizes, program: Program, seconds: float, p
     built = counted.built()
     progress.say(f"solve: {len(network.firms)} firms, {len(built.lots)} lanes, "
                  f"{sum(trade['units'] for trade in built.document['trades']):,} units")
-    begun, untold, told = time.monotonic(), [], None
-    standing = report.solved(built, program.run("solve", built.document))
-    has_time = FEW * (time.monotonic() - begun) < seconds
-    progress.say("range: how far each price may go")
+    begun, untold, worths = time.monotonic(), [], None
+    with ThreadPoolExecutor(1) as beside:
+        ranges = beside.submit(program.run, "range", built.document)
+        standing = report.solved(built, program.run("solve", built.document))
+        has_time = FEW * (time.monotonic() - begun) < seconds
+        progress.say("range: how far each price may go")
+        try:
+            standing = report.with_ranges(standing, ranges.result())
+        except Trouble as trouble:
+            untold.append(f"how far prices may go isn't told: {trouble}")
+    progress.say("firms: what each firm has")
     try:
-        standing = report.with_ranges(standing, program.run("range", built.document))
-    except Trouble as trouble:
-        untold.append(f"how far prices may go isn't told: {trouble}")
-    progress.say("firms: what each firm keeps")
-    try:
-        told = report.kept_at(standing, program)
+        worths = report.worths_of(standing, program)
     except Trouble as trouble:
         untold.append(f"what each firm keeps isn't told: {trouble}")
     progress.say("one more unit: begun")
     scarce = more.ask_more(standing, counted, program, seconds if has_time else 0, progress)
-    return Answered(network, standing, told, scarce, untold, built.document["note"])
+    return Answered(network, standing, worths, scarce, untold, built.document["note"])
 
 
 def tables(found: Answered) -> dict[str, list[tuple]]:
@@ -63,8 +66,8 @@ def tables(found: Answered) -> dict[str, list[tuple]]:
     standing, network = found.standing, found.network
     listed = {"totals": list(total_table(found)), "capacities": list(more.more_table(standing, found.scarce)),
               "lanes": list(report.lane_table(standing, network.lanes))}
-    if found.told is not None:
-        listed["firms"] = list(report.firm_rows(standing, network.firms, found.told))
+    if found.worths is not None:
+        listed["firms"] = list(report.firm_rows(standing, network.firms, found.worths))
     return listed
 
 
@@ -75,11 +78,11 @@ def total_table(found: Answered) -> Iterator[tuple]:
     yield "surplus", standing.money(standing.surplus)
     going = standing.going(standing.built.lots)
     freight = sum(lot.freight(count) for lot, count in going)
-    if found.told is not None and found.told[0] is not None:
-        worths = [row["worth"] for row in found.told[0]]
-        worth = sum(worth for firm, worth in zip(firms, worths) if firm.role in (BUYS, MUST_BUY))
-        goods = sum(-worth - freight_of(standing, firm) for firm, worth in zip(firms, worths) if firm.role == SELLS)
-        making = worth - goods - freight - sum(worths)
+    if found.worths is not None:
+        worths = list(zip(firms, found.worths))
+        worth = sum(worth for firm, worth in worths if firm.role in (BUYS, MUST_BUY))
+        goods = sum(-worth - freight_of(standing, firm) for firm, worth in worths if firm.role == SELLS)
+        making = worth - goods - freight - sum(found.worths)
         yield "worth to customers", standing.money(worth)
         yield "goods", standing.money(goods)
         yield "making and passing on", standing.money(making)
