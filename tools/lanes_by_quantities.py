@@ -78,7 +78,8 @@ def try_shared(room, count):
     count.same("one more of a gate that is narrower, for 5", ("7", "5"), tuple(found.scarce.get("Gate", {}).get(
         name) for name in ("one more brings", "for so many more")))
     for old, new, said in (
-            ("Ramp = 10\n", "Ramp = 10\nS,D,,Ramp = 10\n", "lanes.csv, row 4 (shared): Ramp crosses Gate of row 2: both have row 3"),
+            ("Ramp = 10\n", "Ramp = 10\nS,D,,Ramp = 10\n",
+             "lanes.csv, row 4 (shared): Ramp crosses Gate of row 2: both have row 3"),
             ("Ramp = 10\nT,B,30,", "Ramp = 10\nT,B,30,Gate = 40", "lanes.csv, row 4 (shared): Gate is of row 2 too"),
             ("Gate = 40 |", "Gate = 50 |", "lanes.csv, row 3 (shared): Gate is not 40 here, as it is in row 2"),
             ("Ramp = 10", "Ramp", "lanes.csv, row 3, column D (shared): Ramp is no name with a capacity")):
@@ -121,6 +122,15 @@ def try_asking(room, count, program):
                found.scarce.get("S", {}).get("remark") == "not asked in time", found.told)
     told = Report(room, ONE, "from,to,plant\nS,B,y\n").told
     count.note("what passes a column over", "--ignore passes over a column" in told, told)
+
+
+def try_report(room, count):
+    """A document of its own and its answers make the same tables as `solve`."""
+    wanted = Report(room, GATE, GATE_LANES.replace("Gate = 40", "Gate = 35"))
+    room.put("document.json", room.run("document", "firms.csv", "lanes.csv")[1])
+    for table, listed in (("lanes", wanted.lanes), ("firms", wanted.firms), ("capacities", list(wanted.scarce.values()))):
+        text = room.run("report", "firms.csv", "lanes.csv", "document.json", "--table", table)[1]
+        count.same(f"a report of {table}", (True, listed), (bool(listed), list(csv.DictReader(io.StringIO(text)))))
 
 
 def try_workbooks(room, count):
@@ -222,7 +232,8 @@ def try_kept(count, name, network, standing, program):
     for prices, side in ((standing.prices, "kept"), (standing.lowest, "kept at lowest"), (standing.highest, "kept at highest")):
         if prices is not None and prices.are_all_there():
             told = report.content_firms(program.run("firms", report.with_arrangement(standing, prices)))
-            count.same(f"{name}: {side}", [standing.money(firm["utility"]) for firm in told], [row[head.index(side)] for row in rows])
+            count.same(f"{name}: {side}", [standing.money(firm["utility"]) for firm in told],
+                       [row[head.index(side)] for row in rows])
 
 
 def try_more(count, name, standing, counted, program):
@@ -255,7 +266,7 @@ def try_chain(room, count, program, size, seconds):
 
 
 def try_all(room, count, program, draw, number, is_large):
-    for each in (try_one, try_served, try_shared, try_new, try_workbooks):
+    for each in (try_one, try_served, try_shared, try_report, try_new, try_workbooks):
         each(room, count)
     try_asking(room, count, program)
     try_random_quantities(room, count, program, draw, number)
