@@ -12,7 +12,7 @@ export const EMPTY = '{"version":1,\n "firms":[],\n "trades":[]}\n';
 const FIRMS_NAMED = ["firms * name", "trades * seller", "trades * buyer", "claim firm"];
 const TRADES_NAMED = [
     "trades * name", "firms * rows * 0 *", "firms * amounts * 0", "firms * sets * trades *", "firms * costs * 0",
-    "firms * gains * 0", "firms * pairs * 0", "firms * pairs * 1", "arrangement on *", "arrangement prices * 0",
+    "firms * gains * 0", "firms * pairs * 0", "firms * pairs * 1", "arrangement on *", "arrangement on * 0", "arrangement prices * 0",
     "outcome contracts * 0", "edits * 1", "claim on *", "claim bundle *", "claim keeps *", "claim x *", "claim y *", "claim at",
     "claim nodes *", "claim prices * 0", "claim contracts * 0"];
 
@@ -20,7 +20,7 @@ const TRADES_NAMED = [
 const OF_A_FIRM = [
     ["rows", ["0 *"]], ["amounts", ["0"]], ["sets * trades", [""]], ["costs", ["0"]], ["gains", ["0"]], ["pairs", ["0", "1"]]];
 const OF_THE_TOP = [
-    ["arrangement on", [""]], ["arrangement prices", ["0"]], ["outcome contracts", ["0"]], ["edits", ["1"]]];
+    ["arrangement on", ["", "0"]], ["arrangement prices", ["0"]], ["outcome contracts", ["0"]], ["edits", ["1"]]];
 
 /** The nodes that steps lead to. */
 function nodesAt(node, steps) {
