@@ -13,7 +13,7 @@ use Rattle.tn_links.specs.Totals.{total}
 use Rattle.tn_links.proofs.TotalLemmas.{minus-times, times-minus, total-first, total-plus, total-same, total-swap, total-zero, total_one}
 use Rattle.tn_counts.specs.Counts.{count_surplus, paid_to, payments, trade_at}
 use Rattle.tn_counts.specs.Laminar.{amount_sum, amount_to, amounts_at, constants, firm_of, firms_of, set_number, set_sum}
-use Rattle.tn_counts.specs.Markets.{IsUnitMarket}
+use Rattle.tn_counts.specs.Markets.{IsWideMarket}
 use Rattle.tn_counts.specs.Tree.{bought_at, counts_at, root_node, root_shape, sold_at}
 use Rattle.tn_counts.specs.declared.market.Pin.{Pin}
 use Rattle.tn_counts.specs.declared.market.UnitMarket.{UnitMarket}
@@ -75,7 +75,7 @@ ends_sum firms seller buyer sold bought a b sells buys apart =
     omega (arith, ints, same, parts, first, second)
 
 -- the amounts
-amounts_apart : (market : UnitMarket) (levels : List ℕ) → IsUnitMarket market
+amounts_apart : (market : UnitMarket) (levels : List ℕ) → IsWideMarket market
     → total (λ f. amount_sum market.trades.items market.amounts.items f (counts_at market levels f)) market.firms
     ≡ total (λ t. (amounts_at market.amounts.items t).seller *ℤ pos (sold_at market levels t)
     +ℤ (amounts_at market.amounts.items t).buyer *ℤ pos (bought_at market levels t)) (length market.trades.items)
@@ -95,7 +95,7 @@ amounts_apart market levels is =
     trades = market.trades.items
 
 -- of what is paid, what is sold and not bought is left
-pub payments_apart : (market : UnitMarket) (levels : List ℕ) (prices : ℕ → ℤ) → IsUnitMarket market
+pub payments_apart : (market : UnitMarket) (levels : List ℕ) (prices : ℕ → ℤ) → IsWideMarket market
     → total (λ f. payments market.trades.items prices f (counts_at market levels f)) market.firms
     ≡ total (λ t. prices t *ℤ (pos (sold_at market levels t) -ℤ pos (bought_at market levels t)))
     (length market.trades.items)

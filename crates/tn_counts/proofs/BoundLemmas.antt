@@ -18,7 +18,7 @@ use Rattle.tn_links.specs.Totals.{total}
 use Rattle.tn_links.proofs.TotalLemmas.{times-minus, total-most, total-plus, total-same, total-times, total_one}
 use Rattle.tn_counts.specs.Counts.{CountFirm, IsEquilibriumByCounts, count_surplus, payments, trade_at}
 use Rattle.tn_counts.specs.Laminar.{constants, firm_of, firms_of}
-use Rattle.tn_counts.specs.Markets.{ArePins, IsUnitMarket}
+use Rattle.tn_counts.specs.Markets.{ArePins, IsWideMarket}
 use Rattle.tn_counts.specs.Ranges.{IsSettled, LoseTogether}
 use Rattle.tn_counts.specs.Tree.{AreLinksOf, HasLink, LinkShape, bought_at, buyer_place, buyer_shape, counts_at, even, null_node, pin_place, pin_shape, price_by, root_node, root_shape, seller_place, seller_shape, set_shape, shape_of, sold_at, trade_node}
 use Rattle.tn_counts.specs.declared.market.Pin.{Pin}
@@ -182,7 +182,7 @@ links_pinned market links t of pinned = record {
     last (suc k) pin at = absurd (none-some pin at)
 
 -- what the pin brings back makes it a kept flow
-pinned_flow : (market : UnitMarket) (links : List Link) (levels : List ℕ) (t level : ℕ) (z : ℤ) → IsUnitMarket market
+pinned_flow : (market : UnitMarket) (links : List Link) (levels : List ℕ) (t level : ℕ) (z : ℤ) → IsWideMarket market
     → AreLinksOf market [] links → t < length market.trades.items → IsShifted market links levels t z
     → IsPinLevel z level → (pinned : IsPinned market links t)
     → IsFlowOf market (pin_at t ∷ []) (links ++ pinned.link ∷ []) (levels ++ level ∷ [])
@@ -247,14 +247,14 @@ uneven market links levels t z flow below level_is k inside =
 
 -- ---- no firm has more than at an equilibrium
 
-firm_there : (market : UnitMarket) (f : ℕ) → f < market.firms → slice_get (firms_of market) f ≡ Some (firm_of market f)
+pub firm_there : (market : UnitMarket) (f : ℕ) → f < market.firms → slice_get (firms_of market) f ≡ Some (firm_of market f)
 firm_there market f below =
     let sized = length-map-range_with_len (firm_of market) 0 market.firms in
     let found = item_at (firms_of market) f (omega (arith, below, sized)) in
     found.1 ∙ ap (λ (one : CountFirm). Some one) (firm_at market f found.0 found.1).1
 
 -- so the firms' worths at other counts of each, and what these bring, are no more than the scale times the surplus
-below_equilibrium : (market : UnitMarket) (pins : List Pin) (links : List Link) (levels : List ℕ) (scale surplus : ℤ)
+pub below_equilibrium : (market : UnitMarket) (pins : List Pin) (links : List Link) (levels : List ℕ) (scale surplus : ℤ)
     (counts : ℕ → ℕ) (prices : ℕ → ℤ) → IsFlowOf market pins links levels
     → IsEquilibriumByCounts (firms_of market) market.trades.items scale counts prices
     → count_surplus (firms_of market) counts ≡ Some surplus

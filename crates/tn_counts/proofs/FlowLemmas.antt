@@ -11,7 +11,7 @@ use Rattle.tn_links.specs.Totals.{total}
 use Rattle.tn_links.proofs.LawLemmas.{AreInside, kept_tension}
 use Rattle.tn_links.proofs.TotalLemmas.{minus-times, times-minus, total-minus, total-same, total-zero, total_one}
 use Rattle.tn_counts.specs.Counts.{trade_at}
-use Rattle.tn_counts.specs.Markets.{IsUnitMarket}
+use Rattle.tn_counts.specs.Markets.{IsWideMarket}
 use Rattle.tn_counts.specs.Tree.{AreLinksOf, HasLink, LinkShape, bought_at, inner_node, node_above, null_node, root_node, sold_at, trade_node}
 use Rattle.tn_counts.specs.declared.market.Pin.{Pin}
 use Rattle.tn_counts.specs.declared.market.UnitMarket.{UnitMarket}
@@ -22,7 +22,7 @@ use Rattle.tn_counts.proofs.TreeLemmas.{first_within}
 
 -- a kept flow over the links of a market
 pub record IsFlowOf (market : UnitMarket) (pins : List Pin) (links : List Link) (levels : List ℕ) : Type 0 where
-  pub market_is : IsUnitMarket market
+  pub market_is : IsWideMarket market
   pub of : AreLinksOf market pins links
   pub plain : ArePlain (suc (null_node market)) links
   pub kept : IsKeptFlow links levels

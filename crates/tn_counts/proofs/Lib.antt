@@ -16,4 +16,5 @@ pub mod ReachLemmas
 pub mod BoundLemmas
 pub mod RangeLemmas
 pub mod CheckLemmas
+pub mod WideLemmas
 pub mod SizeLemmas

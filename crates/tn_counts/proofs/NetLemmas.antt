@@ -8,7 +8,7 @@ use Rattle.tn_links.specs.declared.link.Link.{Link}
 use Rattle.tn_links.specs.Totals.{total}
 use Rattle.tn_links.proofs.TotalLemmas.{minus-times, total-plus, total-same, total-zero, total_one}
 use Rattle.tn_counts.specs.Counts.{trade_at}
-use Rattle.tn_counts.specs.Markets.{IsBetween, IsUnitMarket}
+use Rattle.tn_counts.specs.Markets.{IsBetween, IsMarketWithin}
 use Rattle.tn_counts.specs.Tree.{bought_at, inner_node, null_node, root_node, sold_at, trade_node}
 use Rattle.tn_counts.specs.declared.market.Pin.{Pin}
 use Rattle.tn_counts.specs.declared.market.UnitMarket.{UnitMarket}
@@ -95,7 +95,7 @@ ends_pull market pins links levels label flow =
         set_pull market levels label i ∙ ap (λ (z : ℤ). climb market label i *ℤ z) same
 
 -- each trade is between two firms
-pub between_at : (market : UnitMarket) → IsUnitMarket market → (t : ℕ) → t < length market.trades.items
+pub between_at : {trades limit : ℕ} (market : UnitMarket) → IsMarketWithin trades limit market → (t : ℕ) → t < length market.trades.items
     → IsBetween market.firms (trade_at market.trades.items t)
 between_at market is t below =
     is.between t (trade_at market.trades.items t)

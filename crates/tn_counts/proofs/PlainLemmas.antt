@@ -12,7 +12,7 @@ use Rattle.tn_links.specs.Widths.{most_each, most_units}
 use Rattle.tn_counts.specs.Counts.{trade_at}
 use Rattle.tn_counts.specs.Laminar.{amounts_at}
 use Rattle.tn_counts.specs.Laws.{LinksArePlain}
-use Rattle.tn_counts.specs.Markets.{ArePins, IsUnitMarket}
+use Rattle.tn_counts.specs.Markets.{ArePins, IsWideMarket}
 use Rattle.tn_counts.specs.Tree.{AreLinksOf, HasLink, LinkShape, buyer_place, buyer_shape, even, first_from, inner_node, is_around, node_above, null_node, pin_place, pin_shape, root_node, root_shape, seller_place, seller_shape, set_shape, shape_of, trade_node}
 use Rattle.tn_counts.specs.declared.market.Pin.{Pin}
 use Rattle.tn_counts.specs.declared.market.UnitMarket.{UnitMarket}
@@ -119,7 +119,7 @@ even_slight units each small zero step at =
 even_slight units each small (suc i) step at = absurd (none-some step at)
 
 -- where the node above a set is
-pub above_within : (market : UnitMarket) → IsUnitMarket market → (i : ℕ) (set : CountSet)
+pub above_within : (market : UnitMarket) → IsWideMarket market → (i : ℕ) (set : CountSet)
     → slice_get market.sets.items i ≡ Some set
     → (i < node_above market i set.firm set.members.items)
     × (node_above market i set.firm set.members.items < length market.sets.items + market.firms)
@@ -149,7 +149,7 @@ inner_within market f t below =
     let high = found.1 in
     omega (arith, high, below)
 
-shapes_are : (market : UnitMarket) (pins : List Pin) → IsUnitMarket market → ArePins (length market.trades.items) pins
+shapes_are : (market : UnitMarket) (pins : List Pin) → IsWideMarket market → ArePins (length market.trades.items) pins
     → AreAll market pins (λ j shape. IsShape (suc (null_node market)) shape)
 shapes_are market pins is are = record {
   sets = λ i set at.
@@ -164,10 +164,7 @@ shapes_are market pins is are = record {
         back_within = own.around;
         few_units = let few = own.few in omega (arith, few);
         falling = own.concave;
-        slight = λ k step there. let small = own.small k step there in record {
-          low = let least = small.low in omega (arith, ints, least);
-          high = let most = small.high in omega (arith, ints, most);
-        };
+        slight = own.small;
       };
   roots = λ f below. record {
     tail_inside = omega (arith, below);
@@ -189,10 +186,7 @@ shapes_are market pins is are = record {
         few_units = few;
         falling = even_falling (trade_at market.trades.items t).units (amounts_at market.amounts.items t).seller;
         slight = even_slight (trade_at market.trades.items t).units (amounts_at market.amounts.items t).seller
-            (let small = (amounts_of t below).0 in record {
-              low = let least = small.low in omega (arith, ints, least);
-              high = let most = small.high in omega (arith, ints, most);
-            });
+            (amounts_of t below).0;
       };
   buyers = λ t below.
       let known = between_at market is t below in
@@ -205,10 +199,7 @@ shapes_are market pins is are = record {
         few_units = few;
         falling = even_falling (trade_at market.trades.items t).units (amounts_at market.amounts.items t).buyer;
         slight = even_slight (trade_at market.trades.items t).units (amounts_at market.amounts.items t).buyer
-            (let small = (amounts_of t below).1 in record {
-              low = let least = small.low in omega (arith, ints, least);
-              high = let most = small.high in omega (arith, ints, most);
-            });
+            (amounts_of t below).1;
       };
   pinned = λ k pin at.
       let below = are.known k pin at in record {
@@ -229,8 +220,8 @@ shapes_are market pins is are = record {
         omega (arith, units, few)
 
     amounts_of : (t : ℕ) → t < length market.trades.items
-        → IsAtMost (amounts_at market.amounts.items t).seller 20000000
-        × IsAtMost (amounts_at market.amounts.items t).buyer 20000000
+        → IsAtMost (amounts_at market.amounts.items t).seller most_each
+        × IsAtMost (amounts_at market.amounts.items t).buyer most_each
     amounts_of t below =
         let sized = is.as_many in
         let small = is.small t (amounts_at market.amounts.items t)
@@ -324,7 +315,7 @@ from_head shape lo hi order ends below = elim ends [
   | inr two ↦ (two.1, two.0)
 ]
 
-kinds : (market : UnitMarket) (pins : List Pin) → IsUnitMarket market → ArePins (length market.trades.items) pins
+kinds : (market : UnitMarket) (pins : List Pin) → IsWideMarket market → ArePins (length market.trades.items) pins
     → AreAll market pins (λ j shape. (lo hi : ℕ) → EndsAt shape lo hi → lo < hi → Kind market pins j lo hi)
 kinds market pins is are = record {
   sets = λ i set at lo hi ends below.
@@ -355,7 +346,7 @@ kinds market pins is are = record {
 }
 
 -- so the two ends tell the place
-one_place : (market : UnitMarket) (pins : List Pin) → IsUnitMarket market → ArePins (length market.trades.items) pins
+one_place : (market : UnitMarket) (pins : List Pin) → IsWideMarket market → ArePins (length market.trades.items) pins
     → (i j lo hi : ℕ) → Kind market pins i lo hi → Kind market pins j lo hi → i ≡ j
 one_place market pins is are i j lo hi one other = elim one [
   | inl own ↦ elim other [

@@ -19,6 +19,7 @@ use Rattle.tn_counts.specs.declared.market.UnitMarket.{UnitMarket}
 use Rattle.tn_counts.proofs.PlainLemmas.{AreAll, by_place}
 use Rattle.tn_counts.proofs.SmallLemmas.{units_below}
 use Rattle.tn_counts.proofs.SurplusLemmas.{flow_of}
+use Rattle.tn_counts.proofs.WideLemmas.{wide_market}
 
 -- one step adds what it adds
 even_at_most : (limit units : ℕ) (each : ℤ) → IsAtMost each limit → AddAtMost limit (even units each)
@@ -111,7 +112,7 @@ pub market_gain_small : (market : UnitMarket) (links : List Link) (levels : List
     → AreLinksOf market [] links → IsKeptFlow links levels
     → IsAtMost (total_gain links levels) (13312 * (most_set_units * most_unit_amount))
 market_gain_small market links levels is of kept =
-    let plain = (flow_of market links levels is of kept).plain in
+    let plain = (flow_of market links levels (wide_market market is) of kept).plain in
     let small = gains_small links levels (λ j link at. (
       by_place market [] links (λ j shape. IsModest shape) of (shapes_modest market is) j link at,
       (plain.each j link at).steps.back_within,

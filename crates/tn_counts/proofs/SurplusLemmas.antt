@@ -15,7 +15,7 @@ use Rattle.tn_links.proofs.TotalLemmas.{total-same}
 use Rattle.tn_counts.specs.Counts.{CountFirm, HaveFirms, IsBestCount, IsEquilibriumByCounts, count_surplus, count_utility, paid_to, trade_at}
 use Rattle.tn_counts.specs.Laminar.{added_at, amount_to, amounts_at, bought_by, constants, firm_of, firms_of, holds, set_number, set_sum}
 use Rattle.tn_counts.specs.Laws.{CyclesGainByCounts, FlowsAreCounts, LabelsMakeEquilibria, NegativeCyclesBarEquilibria}
-use Rattle.tn_counts.specs.Markets.{ArePins, IsUnitMarket}
+use Rattle.tn_counts.specs.Markets.{ArePins, IsMarketWithin, IsWideMarket}
 use Rattle.tn_counts.specs.Tree.{AreLinksOf, bought_at, counts_at, null_node, price_by, sold_at}
 use Rattle.tn_counts.specs.declared.market.UnitMarket.{UnitMarket}
 use Rattle.tn_counts.specs.declared.set.CountSet.{CountSet}
@@ -37,7 +37,7 @@ no_pins trades = record {
   small = λ k pin at. absurd (none-some pin at);
 }
 
-pub flow_of : (market : UnitMarket) (links : List Link) (levels : List ℕ) → IsUnitMarket market → AreLinksOf market [] links
+pub flow_of : (market : UnitMarket) (links : List Link) (levels : List ℕ) → IsWideMarket market → AreLinksOf market [] links
     → IsKeptFlow links levels → IsFlowOf market [] links levels
 flow_of market links levels is of kept = record {
   market_is = is;
@@ -228,7 +228,8 @@ cycles_more market links levels lot first rest cost is of kept gain =
       gained = after.surplus ∙ ap Some more;
     }
 
-pub have_firms : (market : UnitMarket) → IsUnitMarket market → HaveFirms (length (firms_of market)) market.trades.items
+pub have_firms : {trades limit : ℕ} (market : UnitMarket) → IsMarketWithin trades limit market
+    → HaveFirms (length (firms_of market)) market.trades.items
 have_firms market is =
     let sized = length-map-range_with_len (firm_of market) 0 market.firms in
     record {

@@ -7,7 +7,7 @@ use Rattle.tn_links.specs.Links.{ArePlain}
 use Rattle.tn_links.specs.Lots.{link_arc, pushed}
 use Rattle.tn_counts.specs.Counts.{AreCounts, CountFirm, HaveFirms, IsBestCount, IsEfficientByCounts, IsEquilibriumByCounts, count_surplus, count_utility}
 use Rattle.tn_counts.specs.Laminar.{constants, firm_of, firms_of}
-use Rattle.tn_counts.specs.Markets.{ArePins, IsUnitMarket}
+use Rattle.tn_counts.specs.Markets.{ArePins, IsWideMarket}
 use Rattle.tn_counts.specs.Tree.{AreLinksOf, bought_at, counts_at, null_node, price_by, sold_at}
 use Rattle.tn_counts.specs.declared.market.Pin.{Pin}
 use Rattle.tn_counts.specs.declared.market.UnitMarket.{UnitMarket}
@@ -22,7 +22,7 @@ EquilibriaByCountsAreEfficient = (firms : List CountFirm) (trades : List UnitTra
 
 -- no two links of a market join the same two nodes, and each gains by falling steps
 abbrev pub LinksArePlain : Type 0
-LinksArePlain = (market : UnitMarket) (pins : List Pin) (links : List Link) → IsUnitMarket market
+LinksArePlain = (market : UnitMarket) (pins : List Pin) (links : List Link) → IsWideMarket market
     → ArePins (length market.trades.items) pins → AreLinksOf market pins links → ArePlain (suc (null_node market)) links
 
 -- the counts of each firm are best at the prices, and these are given ones where trades are pinned
@@ -34,7 +34,7 @@ pub record ArePrices (market : UnitMarket) (pins : List Pin) (levels : List ℕ)
 -- labels that keep the graph of a kept flow with lots of one unit are prices
 abbrev pub LabelsArePrices : Type 0
 LabelsArePrices = (market : UnitMarket) (pins : List Pin) (links : List Link) (levels : List ℕ) (label : ℕ → ℤ)
-    → IsUnitMarket market → ArePins (length market.trades.items) pins → AreLinksOf market pins links
+    → IsWideMarket market → ArePins (length market.trades.items) pins → AreLinksOf market pins links
     → IsKeptFlow links levels → KeepsArcs (link_arc links levels 1) label
     → ArePrices market pins levels (price_by market label)
 
@@ -47,12 +47,12 @@ pub record AreItsCounts (market : UnitMarket) (links : List Link) (levels : List
       ≡ Some (total_gain links levels +ℤ constants market.sets.items)
 
 abbrev pub FlowsAreCounts : Type 0
-FlowsAreCounts = (market : UnitMarket) (links : List Link) (levels : List ℕ) → IsUnitMarket market
+FlowsAreCounts = (market : UnitMarket) (links : List Link) (levels : List ℕ) → IsWideMarket market
     → AreLinksOf market [] links → IsKeptFlow links levels → AreItsCounts market links levels
 
 -- then labels that keep the graph make them an equilibrium
 abbrev pub LabelsMakeEquilibria : Type 0
-LabelsMakeEquilibria = (market : UnitMarket) (links : List Link) (levels : List ℕ) (label : ℕ → ℤ) → IsUnitMarket market
+LabelsMakeEquilibria = (market : UnitMarket) (links : List Link) (levels : List ℕ) (label : ℕ → ℤ) → IsWideMarket market
     → AreLinksOf market [] links → IsKeptFlow links levels → KeepsArcs (link_arc links levels 1) label
     → IsEquilibriumByCounts (firms_of market) market.trades.items (pos 1) (sold_at market levels) (price_by market label)
 
@@ -71,13 +71,13 @@ pub record HaveMore (market : UnitMarket) (before after : ℕ → ℕ) (more : �
 -- a lot round a negative cycle gains what the cycle costs
 abbrev pub CyclesGainByCounts : Type 0
 CyclesGainByCounts = (market : UnitMarket) (links : List Link) (levels : List ℕ) (lot first : ℕ) (rest : List ℕ) (cost : ℤ)
-    → IsUnitMarket market → AreLinksOf market [] links → IsKeptFlow links levels → IsGain links levels lot first rest cost
+    → IsWideMarket market → AreLinksOf market [] links → IsKeptFlow links levels → IsGain links levels lot first rest cost
     → HaveMore market (sold_at market levels) (sold_at market (pushed links lot levels first rest first)) (neg_ℤ cost)
 
 -- so where there is one, no prices make the counts an equilibrium, at any scale of at least 1
 abbrev pub NegativeCyclesBarEquilibria : Type 0
 NegativeCyclesBarEquilibria = (market : UnitMarket) (links : List Link) (levels : List ℕ) (lot first : ℕ) (rest : List ℕ)
-    (cost : ℤ) → IsUnitMarket market → AreLinksOf market [] links → IsKeptFlow links levels
+    (cost : ℤ) → IsWideMarket market → AreLinksOf market [] links → IsKeptFlow links levels
     → IsGain links levels lot first rest cost
     → (scale : ℤ) (prices : ℕ → ℤ) → pos 1 ≤ℤ scale
     → IsEquilibriumByCounts (firms_of market) market.trades.items scale (sold_at market levels) prices → ⊥

@@ -1,11 +1,11 @@
 -- What every market of laminar firms keeps, and prices that are given.
 use Rattle.std.specs.Prelude.{◌≡◌, ◌≢◌, ℕ, ◌<◌, ◌≤◌, List, length, sum_by, true, slice_get, Some}
 use Rattle.tn_base.specs.Arcs.{IsAtMost}
-use Rattle.tn_links.specs.Links.{AreFalling, room}
+use Rattle.tn_links.specs.Links.{AddAtMost, AreFalling, room}
 use Rattle.tn_links.specs.Widths.{most_each}
 use Rattle.tn_links.specs.declared.link.Step.{Step}
 use Rattle.tn_counts.specs.Laminar.{holds}
-use Rattle.tn_counts.specs.Widths.{most_count_sets, most_market_units, most_set_units, most_unit_amount, most_unit_firms, most_unit_trades}
+use Rattle.tn_counts.specs.Widths.{most_count_sets, most_market_units, most_set_units, most_unit_amount, most_unit_firms, most_unit_trades, most_wide_trades}
 use Rattle.tn_counts.specs.declared.market.Pin.{Pin}
 use Rattle.tn_counts.specs.declared.market.UnitMarket.{UnitMarket}
 use Rattle.tn_counts.specs.declared.set.CountSet.{CountSet}
@@ -22,10 +22,14 @@ pub record IsBetween (firms : ℕ) (trade : UnitTrade) : Type 0 where
 abbrev pub AreBetween : ℕ → List UnitTrade → Type 0
 AreBetween firms trades = (t : ℕ) (trade : UnitTrade) → slice_get trades t ≡ Some trade → IsBetween firms trade
 
+-- amounts are at most a limit, in size
+pub record AreAmountsWithin (limit : ℕ) (amounts : UnitAmounts) : Type 0 where
+  pub seller : IsAtMost amounts.seller limit
+  pub buyer : IsAtMost amounts.buyer limit
+
 -- amounts are small
-pub record AreSmallAmounts (amounts : UnitAmounts) : Type 0 where
-  pub seller : IsAtMost amounts.seller most_unit_amount
-  pub buyer : IsAtMost amounts.buyer most_unit_amount
+abbrev pub AreSmallAmounts : UnitAmounts → Type 0
+AreSmallAmounts amounts = AreAmountsWithin most_unit_amount amounts
 
 -- those of all trades are
 abbrev pub HaveSmallAmounts : List UnitAmounts → Type 0
@@ -35,14 +39,18 @@ HaveSmallAmounts amounts = (t : ℕ) (each : UnitAmounts) → slice_get amounts 
 abbrev pub HaveSmallSteps : List Step → Type 0
 HaveSmallSteps steps = (k : ℕ) (step : Step) → slice_get steps k ≡ Some step → IsAtMost step.each most_unit_amount
 
--- a set of one of the firms, with a concave function on net counts around 0
-pub record IsCountSet (firms : ℕ) (set : CountSet) : Type 0 where
+-- a set of one of the firms, with a concave function on net counts around 0, whose numbers are at most a limit
+pub record IsSetWithin (limit firms : ℕ) (set : CountSet) : Type 0 where
   pub known : set.firm < firms
   pub around : set.back ≤ room set.steps.items
   pub few : room set.steps.items ≤ most_set_units
   pub concave : AreFalling set.steps.items
-  pub small : HaveSmallSteps set.steps.items
-  pub constant : IsAtMost set.constant most_unit_amount
+  pub small : AddAtMost limit set.steps.items
+  pub constant : IsAtMost set.constant limit
+
+-- one whose numbers are small
+abbrev pub IsCountSet : ℕ → CountSet → Type 0
+IsCountSet firms set = IsSetWithin most_unit_amount firms set
 
 -- all sets are
 abbrev pub AreCountSets : ℕ → List CountSet → Type 0
@@ -66,17 +74,26 @@ pub record HasRoom (market : UnitMarket) : Type 0 where
   pub few_sets : length market.sets.items ≤ most_count_sets
   pub as_many : length market.amounts.items ≡ length market.trades.items
 
--- a market within the limits
-pub record IsUnitMarket (market : UnitMarket) : Type 0 where
+-- a market of at most so many trades, whose numbers are at most a limit
+pub record IsMarketWithin (trades limit : ℕ) (market : UnitMarket) : Type 0 where
   pub few_firms : market.firms ≤ most_unit_firms
-  pub few_trades : length market.trades.items ≤ most_unit_trades
+  pub few_trades : length market.trades.items ≤ trades
   pub few_sets : length market.sets.items ≤ most_count_sets
   pub few_units : sum_by (λ trade. trade.units) market.trades.items ≤ most_market_units
   pub between : AreBetween market.firms market.trades.items
   pub as_many : length market.amounts.items ≡ length market.trades.items
-  pub small : HaveSmallAmounts market.amounts.items
-  pub each : AreCountSets market.firms market.sets.items
+  pub small : (t : ℕ) (each : UnitAmounts) → slice_get market.amounts.items t ≡ Some each → AreAmountsWithin limit each
+  pub each : (i : ℕ) (set : CountSet) → slice_get market.sets.items i ≡ Some set → IsSetWithin limit market.firms set
   pub laminar : AreLaminar market.sets.items
+
+-- a market within the limits
+abbrev pub IsUnitMarket : UnitMarket → Type 0
+IsUnitMarket market = IsMarketWithin most_unit_trades most_unit_amount market
+
+-- one with as many trades again, and with any numbers that links take: a market of which some units are signed, whose
+-- numbers are counted many times, is one
+abbrev pub IsWideMarket : UnitMarket → Type 0
+IsWideMarket market = IsMarketWithin most_wide_trades most_each market
 
 -- pins of different trades, at prices that links take
 pub record ArePins (trades : ℕ) (pins : List Pin) : Type 0 where

@@ -8,7 +8,7 @@ use Rattle.tn_links.specs.Lots.{link_arc}
 use Rattle.tn_links.specs.Totals.{total}
 use Rattle.tn_counts.specs.Counts.{AreCounts, CountFirm, IsEquilibriumByCounts, count_surplus, trade_at}
 use Rattle.tn_counts.specs.Laminar.{firm_of, firms_of}
-use Rattle.tn_counts.specs.Markets.{IsUnitMarket}
+use Rattle.tn_counts.specs.Markets.{IsWideMarket}
 use Rattle.tn_counts.specs.Tree.{AreLinksOf, null_node, sold_at, trade_node}
 use Rattle.tn_counts.specs.declared.market.UnitMarket.{UnitMarket}
 use Rattle.tn_counts.specs.declared.trade.UnitTrade.{UnitTrade}
@@ -63,7 +63,7 @@ pub record LoseTogether (market : UnitMarket) (counts sold bought : ℕ → ℕ)
 
 -- a kept flow over the links of a market of which nothing is pinned, whose graph with lots of one unit labels keep
 pub record IsSettled (market : UnitMarket) (links : List Link) (levels : List ℕ) (label : ℕ → ℤ) : Type 0 where
-  pub market_is : IsUnitMarket market
+  pub market_is : IsWideMarket market
   pub of : AreLinksOf market [] links
   pub kept : IsKeptFlow links levels
   pub keeps : KeepsArcs (link_arc links levels 1) label

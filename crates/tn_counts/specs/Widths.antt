@@ -8,6 +8,10 @@ most_unit_firms = 1024
 abbrev pub most_unit_trades : ℕ
 most_unit_trades = 4096
 
+-- the most trades where contracts and what is unsigned stand beside each other
+abbrev pub most_wide_trades : ℕ
+most_wide_trades = 2 * most_unit_trades
+
 abbrev pub most_count_sets : ℕ
 most_count_sets = 4096
 
