@@ -7,7 +7,7 @@ use Rattle.std.proofs.lemmas.List.FromFn.{length-map-range_with_len}
 use Rattle.std.proofs.lemmas.Option.{none-some, slice_get-map}
 use Rattle.tn_links.specs.declared.link.Link.{Link}
 use Rattle.tn_links.specs.Links.{AreServed}
-use Rattle.tn_counts.specs.Markets.{ArePins, IsUnitMarket}
+use Rattle.tn_counts.specs.Markets.{ArePins, IsWideMarket}
 use Rattle.tn_counts.specs.Tree.{AreLinksOf, HasLink, LinkShape, buyer_place, buyer_shape, null_node, pin_place, pin_shape, root_node, root_shape, seller_place, seller_shape, set_shape, shape_of}
 use Rattle.tn_counts.specs.declared.market.Pin.{Pin}
 use Rattle.tn_counts.specs.declared.market.UnitMarket.{UnitMarket}
@@ -155,7 +155,7 @@ links_made market pins links made = record {
     at_link j shape at = sym (slice_get-map shape_of links j) ∙ ap (λ (xs : List LinkShape). slice_get xs j) made ∙ at
 
 -- they are such as `Links` takes
-pub links_served : (market : UnitMarket) (pins : List Pin) (links : List Link) → IsUnitMarket market
+pub links_served : (market : UnitMarket) (pins : List Pin) (links : List Link) → IsWideMarket market
     → ArePins (length market.trades.items) pins → AreLinksOf market pins links → AreServed (suc (null_node market)) links
 links_served market pins links is are of = record {
   plain = links_plain market pins links is are of;

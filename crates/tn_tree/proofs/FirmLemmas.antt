@@ -1,5 +1,5 @@
 -- What firms have by counts of what each sells and buys, trade by trade and set by set.
-use Rattle.std.proofs.Common.{◌≡◌, ℕ, zero, suc, ◌+◌, ◌-◌, ◌*◌, ◌^◌, ◌<◌, ◌≤◌, ◌⊎◌, Bool, true, false, ◌==◌, if◌then◌else◌, List, [], ◌∷◌, length, map, drop, get_or, Option, Some, None, option_map, slice_get, refl, sym, ap, ap₂, ◌∙◌, subst, arith, inl, inr, ℤ, pos, ◌+ℤ◌, ◌-ℤ◌, ◌≤ℤ◌, ◌*ℤ◌}
+use Rattle.std.proofs.Common.{◌≡◌, ◌≢◌, ℕ, zero, suc, ◌+◌, ◌-◌, ◌*◌, ◌^◌, ◌<◌, ◌≤◌, ◌⊎◌, Bool, true, false, ◌==◌, if◌then◌else◌, List, [], ◌∷◌, length, map, drop, get_or, Option, Some, None, option_map, slice_get, refl, sym, ap, ap₂, ◌∙◌, subst, arith, inl, inr, ℤ, pos, ◌+ℤ◌, ◌-ℤ◌, ◌≤ℤ◌, ◌*ℤ◌}
 use Rattle.std.specs.Prelude.{set, ◌<ℤ◌}
 use Rattle.std.proofs.lemmas.Int.{ints}
 use Rattle.std.proofs.lemmas.Bool.{cases_eq, cases_lt, eq-eqb, eqb-true, ne_eqb, true≢false}
@@ -10,8 +10,7 @@ use Rattle.std.proofs.Math.IntN.{negsuc, zero-*ℤ}
 use Rattle.tn_base.specs.Options.{both}
 use Rattle.tn_base.specs.Arcs.{IsAtMost}
 use Rattle.tn_base.proofs.WalkLemmas.{both_parts}
-use Rattle.tn_links.specs.declared.link.Step.{Step}
-use Rattle.tn_links.specs.Links.{AreSlight, rise, room}
+use Rattle.tn_links.specs.Links.{rise, room}
 use Rattle.tn_links.specs.RiseLemmas.{rise_at_most, times_small}
 use Rattle.tn_links.specs.Widths.{most_each}
 use Rattle.tn_links.specs.Totals.{total}
@@ -19,8 +18,7 @@ use Rattle.tn_links.proofs.TotalLemmas.{total-same}
 use Rattle.tn_counts.specs.Outcomes.{HasEnd}
 use Rattle.tn_counts.specs.Counts.{AreCounts, count_utility, paid_to, payments, trade_at}
 use Rattle.tn_counts.specs.Laminar.{added_at, amount_sum, amount_to, amounts_at, bought_by, firm_of, holds, net_count, set_number, set_sum}
-use Rattle.tn_counts.specs.Markets.{HaveSmallAmounts, HaveSmallSteps, IsUnitMarket}
-use Rattle.tn_counts.specs.Widths.{most_set_units, most_unit_amount}
+use Rattle.tn_counts.specs.Markets.{AreAmountsWithin, IsMarketWithin, IsSetWithin, IsWideMarket}
 use Rattle.tn_counts.specs.declared.market.UnitMarket.{UnitMarket}
 use Rattle.tn_counts.specs.declared.set.CountSet.{CountSet}
 use Rattle.tn_counts.specs.declared.trade.UnitAmounts.{UnitAmounts}
@@ -57,7 +55,7 @@ own_parts false false x y sold bought apart =
     let none = zero-*ℤ (pos bought) in
     omega (arith, ints, none)
 
-pub amounts_own : (market : UnitMarket) (amounts : List UnitAmounts) (sold bought : List ℕ) (f : ℕ) → IsUnitMarket market
+pub amounts_own : (market : UnitMarket) (amounts : List UnitAmounts) (sold bought : List ℕ) (f : ℕ) → IsWideMarket market
     → total (own_term market.trades.items amounts sold bought f) (length market.trades.items)
     ≡ amount_sum market.trades.items amounts f (own_counts market.trades.items sold bought f)
 amounts_own market amounts sold bought f is =
@@ -104,7 +102,7 @@ both_assoc (Some a) (Some b) (Some c) =
     ap Some same
 
 -- the net count of a set is that of its firm's own counts
-pub net_own : (market : UnitMarket) (sold bought : List ℕ) (i : ℕ) (set : CountSet) → IsUnitMarket market
+pub net_own : (market : UnitMarket) (sold bought : List ℕ) (i : ℕ) (set : CountSet) → IsWideMarket market
     → slice_get market.sets.items i ≡ Some set
     → net_at market sold bought i
     ≡ net_count market.trades.items set (own_counts market.trades.items sold bought set.firm)
@@ -216,38 +214,41 @@ utility_own market scale prices f counts others same =
 
 -- ---- sizes
 
-pub slight_steps : (steps : List Step) → HaveSmallSteps steps → AreSlight steps
-slight_steps steps small i step at =
-    let own = small i step at in
-    record { low = omega (arith, ints, own.low); high = omega (arith, ints, own.high) }
-
 -- what a set adds at a level
-pub number_small : (set : CountSet) (level : ℕ) → level ≤ room set.steps.items → set.back ≤ room set.steps.items
-    → room set.steps.items ≤ most_set_units → HaveSmallSteps set.steps.items → IsAtMost set.constant most_unit_amount
-    → IsAtMost (set.constant +ℤ (rise set.steps.items level -ℤ rise set.steps.items set.back)) most_set_number
-number_small set level within around few small constant = elim (cases_lt level set.back) [
+pub number_small : (limit firms : ℕ) (set : CountSet) (level : ℕ) → IsSetWithin limit firms set
+    → level ≤ room set.steps.items
+    → IsAtMost (set.constant +ℤ (rise set.steps.items level -ℤ rise set.steps.items set.back)) (2097153 * limit)
+number_small limit firms set level is within = elim (cases_lt level set.back) [
   | inl below ↦
       let d : ℕ = set.back - level in
       let sum : level + d ≡ set.back = omega (arith, below) in
-      let rises = rise_at_most most_unit_amount set.steps.items level d small in
+      let rises = rise_at_most limit set.steps.items level d is.small in
       let same = ap (rise set.steps.items) sum in
+      let most = mul-le-mul_right limit (few d (omega (arith, is.around, sum))) in
       record {
-        low = omega (arith, ints, rises.high, same, sum, around, few, constant.low);
-        high = omega (arith, ints, rises.low, same, sum, around, few, constant.high);
+        low = omega (arith, ints, rises.high, same, most, constant.low);
+        high = omega (arith, ints, rises.low, same, most, constant.high);
       }
   | inr past ↦
       let d : ℕ = level - set.back in
       let sum : set.back + d ≡ level = omega (arith, past) in
-      let rises = rise_at_most most_unit_amount set.steps.items set.back d small in
+      let rises = rise_at_most limit set.steps.items set.back d is.small in
       let same = ap (rise set.steps.items) sum in
+      let most = mul-le-mul_right limit (few d (omega (arith, within, sum))) in
       record {
-        low = omega (arith, ints, rises.low, same, sum, within, few, constant.low);
-        high = omega (arith, ints, rises.high, same, sum, within, few, constant.high);
+        low = omega (arith, ints, rises.low, same, most, constant.low);
+        high = omega (arith, ints, rises.high, same, most, constant.high);
       }
 ]
+  where
+    constant : IsAtMost set.constant limit
+    constant = is.constant
+
+    few : (d : ℕ) → d ≤ room set.steps.items → d ≤ 2097152
+    few d below = let most = is.few in omega (arith, below, most)
 
 -- what amounts of the first trades add
-pub terms_so_far : (market : UnitMarket) (amounts : List UnitAmounts) (sold bought : List ℕ) (f k : ℕ) → IsUnitMarket market
+pub terms_so_far : (market : UnitMarket) (amounts : List UnitAmounts) (sold bought : List ℕ) (f k : ℕ) → IsWideMarket market
     → length amounts ≡ length market.trades.items
     → ((t : ℕ) (each : UnitAmounts) → slice_get amounts t ≡ Some each
     → IsAtMost each.seller most_each × IsAtMost each.buyer most_each)
@@ -287,7 +288,7 @@ terms_so_far market amounts sold bought f (suc k) is sized small few fewer withi
     by false z small = record { low = omega (arith, ints); high = omega (arith, ints) }
 
 pub terms_sum : (market : UnitMarket) (amounts : List UnitAmounts) (sold bought : List ℕ) (numbers : List ℤ) (f k : ℕ)
-    → IsUnitMarket market → length amounts ≡ length market.trades.items
+    → IsWideMarket market → length amounts ≡ length market.trades.items
     → ((t : ℕ) (each : UnitAmounts) → slice_get amounts t ≡ Some each
     → IsAtMost each.seller most_each × IsAtMost each.buyer most_each)
     → AreCounts market.trades.items (count_in sold) → AreCounts market.trades.items (count_in bought)
@@ -334,7 +335,7 @@ pub weaker : {z : ℤ} → IsAtMost z (10 ^ 25) → IsAtMost z most_sum
 weaker {z} small = record { low = omega (arith, ints, small.low); high = omega (arith, ints, small.high) }
 
 pub second_small : (market : UnitMarket) (counts : List ℕ) (before after : List ℤ) (p q t : ℕ) (each : ℤ)
-    → IsUnitMarket market → AreCounts market.trades.items (count_in counts) → t < length market.trades.items
+    → IsWideMarket market → AreCounts market.trades.items (count_in counts) → t < length market.trades.items
     → p < length before → IsAtMost each most_each
     → after ≡ set before p (get_or before p (pos 0) +ℤ each *ℤ pos (count_in counts t))
     → IsAtMost (get_or before q (pos 0)) (10 ^ 25) → IsAtMost (get_or after q (pos 0)) most_sum
@@ -383,50 +384,69 @@ fewer_units z n units limit small few =
     let more = mul-le-mul_right limit few in
     record { low = omega (arith, ints, small.low, more); high = omega (arith, ints, small.high, more) }
 
-pub amounts_small : (market : UnitMarket) (amounts : List UnitAmounts) (sold bought : List ℕ) (f limit : ℕ)
-    → IsUnitMarket market
-    → ((t : ℕ) → t < length market.trades.items
-    → IsAtMost (amounts_at amounts t).seller limit × IsAtMost (amounts_at amounts t).buyer limit)
-    → AreCounts market.trades.items (count_in sold) → AreCounts market.trades.items (count_in bought)
-    → IsAtMost (amount_sum market.trades.items amounts f (own_counts market.trades.items sold bought f)) (1048576 * limit)
-amounts_small market amounts sold bought f limit is small few fewer =
-    let sum = amounts_own market amounts sold bought f is in
-    let scale = scaled (λ t. (trade_at trades t).units) limit (length trades) in
+-- what units of all trades bring, each at most a limit
+pub units_bring : {trades limit : ℕ} (market : UnitMarket) (rate : ℕ → ℤ) (counts : ℕ → ℕ) (most : ℕ)
+    → IsMarketWithin trades limit market
+    → ((t : ℕ) → t < length market.trades.items → IsAtMost (rate t) most) → AreCounts market.trades.items counts
+    → IsAtMost (total (λ t. rate t *ℤ pos (counts t)) (length market.trades.items)) (1048576 * most)
+units_bring market rate counts most is small few =
+    let scale = scaled (λ t. (trade_at trades t).units) most (length trades) in
     let units = units_total trades in
     let all = is.few_units in
     let one = scale.1 in
     let two = scale.2 in
     let below : scale.0 ≤ 1048576 = omega (arith, ints, one, units, all) in
-    let most = mul-le-mul_right limit below in
-    let within = total_small (own_term trades amounts sold bought f) (λ t. pos ((trade_at trades t).units * limit))
-    (length trades) (λ t inside. each t inside) in
-    record {
-      low = omega (arith, ints, within.0, sum, two, most);
-      high = omega (arith, ints, within.1, sum, two, most);
-    }
+    let times = mul-le-mul_right most below in
+    let within = total_small (λ t. rate t *ℤ pos (counts t)) (λ t. pos ((trade_at trades t).units * most)) (length trades)
+    (λ t inside. let own = each t inside in (omega (arith, ints, own.low), omega (arith, ints, own.high))) in
+    record { low = omega (arith, ints, within.0, two, times); high = omega (arith, ints, within.1, two, times) }
   where
     trades : List UnitTrade
     trades = market.trades.items
 
-    each : (t : ℕ) → t < length trades
-        → ((pos 0 -ℤ pos ((trade_at trades t).units * limit)) ≤ℤ own_term trades amounts sold bought f t)
-        × (own_term trades amounts sold bought f t ≤ℤ pos ((trade_at trades t).units * limit))
+    each : (t : ℕ) → t < length trades → IsAtMost (rate t *ℤ pos (counts t)) ((trade_at trades t).units * most)
     each t inside =
-        let own = small t inside in
-        one_end (f == (trade_at trades t).seller) (f == (trade_at trades t).buyer)
-        ((amounts_at amounts t).seller *ℤ pos (count_in sold t)) ((amounts_at amounts t).buyer *ℤ pos (count_in bought t))
-        ((trade_at trades t).units * limit)
-        (λ sells. ne_eqb f (trade_at trades t).buyer
-        (λ buys. (between_at market is t inside).apart (sym (eqb-true f (trade_at trades t).seller sells) ∙ buys)))
-        (fewer_units ((amounts_at amounts t).seller *ℤ pos (count_in sold t)) (count_in sold t) (trade_at trades t).units
-        limit (times_small (amounts_at amounts t).seller (count_in sold t) limit own.0) (few t inside))
-        (fewer_units ((amounts_at amounts t).buyer *ℤ pos (count_in bought t)) (count_in bought t)
-        (trade_at trades t).units limit (times_small (amounts_at amounts t).buyer (count_in bought t) limit own.1)
-        (fewer t inside))
+        fewer_units (rate t *ℤ pos (counts t)) (counts t) (trade_at trades t).units most
+        (times_small (rate t) (counts t) most (small t inside)) (few t inside)
+
+-- what a unit of a trade adds at its two ends, of which a firm is at most one
+pub amount_small : (f : ℕ) (trade : UnitTrade) (amounts : UnitAmounts) (limit : ℕ) → trade.seller ≢ trade.buyer
+    → IsAtMost amounts.seller limit → IsAtMost amounts.buyer limit → IsAtMost (amount_to f trade amounts) limit
+amount_small f trade amounts limit apart first second =
+    let most = one_end (f == trade.seller) (f == trade.buyer) amounts.seller amounts.buyer limit
+    (λ sells. ne_eqb f trade.buyer (λ buys. apart (sym (eqb-true f trade.seller sells) ∙ buys))) first second in
+    record { low = omega (arith, ints, most.0); high = omega (arith, ints, most.1) }
+
+-- what amounts of counts within the units add
+pub amounts_within : {trades limit : ℕ} (market : UnitMarket) (amounts : List UnitAmounts) (counts : ℕ → ℕ) (f most : ℕ)
+    → IsMarketWithin trades limit market
+    → ((t : ℕ) → t < length market.trades.items
+    → IsAtMost (amounts_at amounts t).seller most × IsAtMost (amounts_at amounts t).buyer most)
+    → AreCounts market.trades.items counts
+    → IsAtMost (amount_sum market.trades.items amounts f counts) (1048576 * most)
+amounts_within market amounts counts f most is small few =
+    units_bring market (λ t. amount_to f (trade_at market.trades.items t) (amounts_at amounts t)) counts most is
+    (λ t inside. let own = small t inside in
+    amount_small f (trade_at market.trades.items t) (amounts_at amounts t) most (between_at market is t inside).apart own.0
+    own.1) few
+
+pub amounts_small : (market : UnitMarket) (amounts : List UnitAmounts) (sold bought : List ℕ) (f limit : ℕ)
+    → IsWideMarket market
+    → ((t : ℕ) → t < length market.trades.items
+    → IsAtMost (amounts_at amounts t).seller limit × IsAtMost (amounts_at amounts t).buyer limit)
+    → AreCounts market.trades.items (count_in sold) → AreCounts market.trades.items (count_in bought)
+    → IsAtMost (amount_sum market.trades.items amounts f (own_counts market.trades.items sold bought f)) (1048576 * limit)
+amounts_small market amounts sold bought f limit is small few fewer =
+    amounts_within market amounts (own_counts market.trades.items sold bought f) f limit is small
+    (λ t inside. either (f == (trade_at market.trades.items t).seller) (few t inside) (fewer t inside))
+  where
+    either : (b : Bool) {units n m : ℕ} → n ≤ units → m ≤ units → (if b then n else m) ≤ units
+    either true first second = first
+    either false first second = second
 
 -- ---- set by set
 
-pub number_is : (market : UnitMarket) (sold bought : List ℕ) (i : ℕ) (one : CountSet) (net : ℤ) → IsUnitMarket market
+pub number_is : (market : UnitMarket) (sold bought : List ℕ) (i : ℕ) (one : CountSet) (net : ℤ) → IsWideMarket market
     → slice_get market.sets.items i ≡ Some one → net ≡ net_at market sold bought i
     → added_at one (net +ℤ pos one.back)
     ≡ set_number market.trades.items one (own_counts market.trades.items sold bought one.firm)
@@ -475,9 +495,9 @@ worth_step market sold bought i one before after number whole f at number_at ins
 
 pub small_step : (i firm : ℕ) (before after : List (Option ℤ)) (number : Option ℤ) (f : ℕ) (worth : ℤ)
     → firm < length before → after ≡ set before firm (both (get_or before firm None) number)
-    → ((g : ℕ) (value : ℤ) → get_or before g None ≡ Some value → IsAtMost value (20971520000000 + i * most_set_number))
+    → ((g : ℕ) (value : ℤ) → get_or before g None ≡ Some value → IsAtMost value (209715200000000000 + i * most_set_number))
     → ((value : ℤ) → number ≡ Some value → IsAtMost value most_set_number)
-    → get_or after f None ≡ Some worth → IsAtMost worth (20971520000000 + (i + 1) * most_set_number)
+    → get_or after f None ≡ Some worth → IsAtMost worth (209715200000000000 + (i + 1) * most_set_number)
 small_step i firm before after number f worth inside made so_far small is = elim (cases_eq f firm) [
   | inl own ↦
       let now : get_or after f None ≡ both (get_or before firm None) number =
@@ -503,24 +523,19 @@ all_added (Some a) whole is = let same : a ≡ a +ℤ pos 0 = omega (arith, ints
 
 -- ---- the amounts of a market
 
-pub small_amounts : (market : UnitMarket) → IsUnitMarket market → (t : ℕ) → t < length market.trades.items
-    → IsAtMost (amounts_at market.amounts.items t).seller most_unit_amount
-    × IsAtMost (amounts_at market.amounts.items t).buyer most_unit_amount
+pub small_amounts : {trades limit : ℕ} (market : UnitMarket) → IsMarketWithin trades limit market → (t : ℕ)
+    → t < length market.trades.items
+    → IsAtMost (amounts_at market.amounts.items t).seller limit × IsAtMost (amounts_at market.amounts.items t).buyer limit
 small_amounts market is t below =
     let sized = is.as_many in
     let small = is.small t (amounts_at market.amounts.items t)
     (slice_get-get_or market.amounts.items t (record { seller = pos 0; buyer = pos 0 }) (omega (arith, below, sized))) in
     (small.seller, small.buyer)
 
-pub slight_amounts : (amounts : List UnitAmounts) → HaveSmallAmounts amounts → (t : ℕ) (each : UnitAmounts)
-    → slice_get amounts t ≡ Some each → IsAtMost each.seller most_each × IsAtMost each.buyer most_each
-slight_amounts amounts small t each at =
-    let own = small t each at in
-    let seller = own.seller in
-    let buyer = own.buyer in (
-      record { low = omega (arith, ints, seller.low); high = omega (arith, ints, seller.high) },
-      record { low = omega (arith, ints, buyer.low); high = omega (arith, ints, buyer.high) },
-    )
+pub slight_amounts : (amounts : List UnitAmounts)
+    → ((t : ℕ) (each : UnitAmounts) → slice_get amounts t ≡ Some each → AreAmountsWithin most_each each) → (t : ℕ)
+    (each : UnitAmounts) → slice_get amounts t ≡ Some each → IsAtMost each.seller most_each × IsAtMost each.buyer most_each
+slight_amounts amounts small t each at = let own = small t each at in (own.seller, own.buyer)
 
 pub some_at : (xs : List ℤ) (f : ℕ) → f < length xs → get_or (map Some xs) f None ≡ Some (get_or xs f (pos 0))
 some_at [] f below = absurd (omega (arith, below))

@@ -12,7 +12,7 @@ use Rattle.tn_links.specs.declared.link.Link.{Link}
 use Rattle.tn_links.specs.Widths.{most_each}
 use Rattle.tn_counts.specs.Counts.{AreCounts, CountFirm, IsBestCount, IsEquilibriumByCounts, trade_at}
 use Rattle.tn_counts.specs.Laminar.{amounts_at, firm_of, firms_of}
-use Rattle.tn_counts.specs.Markets.{IsUnitMarket}
+use Rattle.tn_counts.specs.Markets.{IsWideMarket}
 use Rattle.tn_counts.specs.Outcomes.{HasEnd}
 use Rattle.tn_counts.specs.Tree.{AreLinksOf}
 use Rattle.tn_counts.specs.declared.market.Pin.{Pin}
@@ -23,7 +23,7 @@ use Rattle.tn_counts.proofs.NetLemmas.{between_at}
 use Rattle.tn_counts.proofs.SurplusLemmas.{firm_at}
 use Rattle.tn_counts.proofs.WelfareLemmas.{has_worth}
 use Rattle.tn_tree.specs.declared.held.FirmCount.{FirmCount}
-use Rattle.tn_tree.specs.Held.{AreKept, AreSmallValues, AreValues, IsHeld, IsKept, firm_count, gain_at, utility_at}
+use Rattle.tn_tree.specs.Held.{AreKept, AreSmallValues, AreValues, IsHeldAt, IsKept, firm_count, gain_at, utility_at}
 use Rattle.tn_tree.specs.Lists.{count_in, own_counts, price_in, rate_of}
 use Rattle.tn_tree.specs.Nets.{HaveTree, most_count_worth, most_paid}
 use Rattle.tn_tree.proofs.FirmLemmas.{AreSameFor, paid_amounts, utility_own, worth_own}
@@ -139,12 +139,10 @@ pub held_is : (market : UnitMarket) (counts : List ℕ) (prices : List ℤ) (rat
     (own_counts market.trades.items sold bought f) value)
     → AreKept market.trades.items firms counts sold bought kept_sold kept_bought
     → gain_at firms f ≡ (firm_count (get_or worths f None) (get_or utilities f None) (get_or bests f None)).gain
-    → ((value : ℤ) → get_or worths f None ≡ Some value → IsAtMost value most_count_worth) → AreSmallValues utilities
-    → AreSmallValues bests
-    → IsHeld market.trades.items f (firm_of market f) counts prices kept_sold kept_bought
+    → IsHeldAt market.trades.items f (firm_of market f) counts prices kept_sold kept_bought
     (firm_count (get_or worths f None) (get_or utilities f None) (get_or bests f None))
 held_is market counts prices rates sold bought kept_sold kept_bought worths utilities bests others firms f below within few fewer
-    paid values best_values best kept gain small_worth small_utility small_best =
+    paid values best_values best kept gain =
     let trades = market.trades.items in
     let firm = firm_of market f in
     let all = own_all market counts f in
@@ -159,7 +157,6 @@ held_is market counts prices rates sold bought kept_sold kept_bought worths util
     let some = best_utility ∙ best.1.is in
     let value_is : unwrap_or (get_or bests f None) (pos 0) ≡ best.0 = ap (λ (o : Option ℤ). unwrap_or o (pos 0)) some in
     let parts = kept_for trades firms counts sold bought kept_sold kept_bought f kept in
-    let best_small = small_best f best.0 some in
     record {
       worth_is = own_worth;
       utility_is = own_utility;
@@ -179,28 +176,7 @@ held_is market counts prices rates sold bought kept_sold kept_bought worths util
       };
       gain_is = refl;
       own = λ content t inside ends. parts.0 (gain ∙ content) t inside ends;
-      small_worth = λ value is. let small = small_worth value is in
-          record { low = omega (arith, ints, small.low); high = omega (arith, ints, small.high) };
-      small_utility = λ value is. let small = small_utility f value is in
-          record { low = omega (arith, ints, small.low); high = omega (arith, ints, small.high) };
-      small_best = record {
-        low = omega (arith, ints, best_small.low, value_is);
-        high = omega (arith, ints, best_small.high, value_is);
-      };
-      small_gain = λ value is.
-          let own = gained (get_or utilities f None) (unwrap_or (get_or bests f None) (pos 0)) value is in
-          let small = small_utility f own.0 own.1 in
-          let sum = own.2 in
-          record {
-            low = omega (arith, ints, sum, small.low, small.high, best_small.low, best_small.high, value_is);
-            high = omega (arith, ints, sum, small.low, small.high, best_small.low, best_small.high, value_is);
-          };
     }
-  where
-    gained : (utility : Option ℤ) (most value : ℤ) → option_map (λ own. most -ℤ own) utility ≡ Some value
-        → (own : ℤ) × (utility ≡ Some own) × (value ≡ most -ℤ own)
-    gained None most value is = absurd (none-some value is)
-    gained (Some own) most value is = (own, refl, sym (same_Some (most -ℤ own) value is))
 
 -- ---- where no firm gains
 
@@ -208,7 +184,7 @@ held_is market counts prices rates sold bought kept_sold kept_bought worths util
 pub all_content : (market : UnitMarket) (counts : List ℕ) (prices : List ℤ) (sold bought : List ℕ) (firms : List FirmCount)
     → AreCounts market.trades.items (count_in counts) → length firms ≡ market.firms
     → ((f : ℕ) (said : FirmCount) → slice_get firms f ≡ Some said
-    → IsHeld market.trades.items f (firm_of market f) counts prices sold bought said × (said.gain ≡ Some (pos 0)))
+    → IsHeldAt market.trades.items f (firm_of market f) counts prices sold bought said × (said.gain ≡ Some (pos 0)))
     → IsEquilibriumByCounts (firms_of market) market.trades.items (pos 1) (count_in counts) (price_in prices)
 all_content market counts prices sold bought firms within sized all f firm at =
     let found = firm_at market f firm at in
@@ -289,7 +265,7 @@ rates_paid trades prices rates made sized t below =
     (sym (ap (λ (r : UnitAmounts). r.seller) read), sym (ap (λ (r : UnitAmounts). r.buyer) read))
 
 -- best counts are within the units
-pub best_within : (market : UnitMarket) (prices : List ℤ) (sold bought : List ℕ) → IsUnitMarket market
+pub best_within : (market : UnitMarket) (prices : List ℤ) (sold bought : List ℕ) → IsWideMarket market
     → ((f : ℕ) → f < market.firms → (value : ℤ)
     × IsBestCount market.trades.items (utility_at market.trades.items prices f (firm_of market f))
     (own_counts market.trades.items sold bought f) value)

@@ -1,11 +1,11 @@
 -- Levels by counts that are possible for each firm are a kept flow.
-use Rattle.std.proofs.Common.{◌≡◌, ℕ, ◌+◌, ◌*◌, ◌<◌, ◌≤◌, Bool, true, false, ◌==◌, if◌then◌else◌, List, [], ◌∷◌, ◌++◌, length, map, get_or, Option, Some, slice_get, refl, sym, ap, ap₂, ◌∙◌, arith, ℤ, pos, ◌+ℤ◌, ◌-ℤ◌, ◌≤ℤ◌, ◌*ℤ◌}
+use Rattle.std.proofs.Common.{◌≡◌, ℕ, ◌+◌, ◌*◌, ◌<◌, ◌≤◌, Bool, true, false, ◌==◌, if◌then◌else◌, List, [], ◌∷◌, ◌++◌, length, map, get_or, Option, Some, None, slice_get, refl, sym, ap, ap₂, ◌∙◌, arith, ℤ, pos, ◌+ℤ◌, ◌-ℤ◌, ◌≤ℤ◌, ◌*ℤ◌}
 use Rattle.std.specs.Prelude.{unsigned_abs}
 use Rattle.std.specs.List.{range_with_len}
 use Rattle.std.proofs.lemmas.Int.{ints}
-use Rattle.std.proofs.lemmas.List.{append-nil, get_or-append-add, get_or_append_left, length-append}
+use Rattle.std.proofs.lemmas.List.{get_or-append-add, get_or_append_left, length-append}
 use Rattle.std.proofs.lemmas.List.FromFn.{get_or-map-range_with_len, length-map-range_with_len}
-use Rattle.std.proofs.lemmas.Option.{get_or_from_slice_get, none-some, slice_get_within}
+use Rattle.std.proofs.lemmas.Option.{get_or_from_slice_get, slice_get_within}
 use Rattle.std.proofs.Math.IntN.{negsuc, *ℤ_comm}
 use Rattle.tn_base.specs.Arcs.{IsAtMost}
 use Rattle.tn_base.proofs.WalkLemmas.{both_parts}
@@ -17,8 +17,8 @@ use Rattle.tn_links.proofs.LawLemmas.{tension}
 use Rattle.tn_links.proofs.TotalLemmas.{minus-times, times-minus, total-minus, total-plus, total-same, total-swap, total-times, total-zero, total_at}
 use Rattle.tn_counts.specs.Counts.{AreCounts, trade_at}
 use Rattle.tn_counts.specs.Laminar.{amount_sum, net_count, set_sum}
-use Rattle.tn_counts.specs.Markets.{IsUnitMarket}
-use Rattle.tn_counts.specs.Tree.{AreLinksOf, bought_at, buyer_place, inner_node, null_node, pin_place, root_node, seller_place, sold_at, trade_node}
+use Rattle.tn_counts.specs.Markets.{IsWideMarket}
+use Rattle.tn_counts.specs.Tree.{AreLinksOf, bought_at, buyer_place, inner_node, null_node, pin_place, pin_shape, root_node, seller_place, sold_at, trade_node}
 use Rattle.tn_counts.specs.Widths.{most_market_units, unbounded}
 use Rattle.tn_counts.specs.declared.market.Pin.{Pin}
 use Rattle.tn_counts.specs.declared.market.UnitMarket.{UnitMarket}
@@ -26,10 +26,10 @@ use Rattle.tn_counts.specs.declared.set.CountSet.{CountSet}
 use Rattle.tn_counts.proofs.ClimbLemmas.{climb, climbed, moved, sets_climb}
 use Rattle.tn_counts.proofs.FlowLemmas.{at_node, flow_in, set_pull}
 use Rattle.tn_counts.proofs.NetLemmas.{between_at, end_parts}
-use Rattle.tn_counts.proofs.PlaceLemmas.{buyer_term, item_at, links_sum, pin_term, pull, root_term, seller_term, set_term, tension_placed}
+use Rattle.tn_counts.proofs.PlaceLemmas.{buyer_term, item_at, links_sum, pin_in, pin_term, pull, root_term, seller_term, set_term, tension_placed}
 use Rattle.tn_counts.proofs.PlainLemmas.{AreAll, by_place}
 use Rattle.tn_counts.proofs.WorthLemmas.{level_of, set_sum_parts}
-use Rattle.tn_tree.specs.Levels.{ArePossible, back_in, levels_by, root_level, set_level}
+use Rattle.tn_tree.specs.Levels.{AreLevelsOf, ArePossible, back_in, levels_by, root_level, set_level}
 use Rattle.tn_tree.specs.Lists.{count_in, own_counts}
 use Rattle.tn_tree.specs.Nets.{firm_net, net_at}
 use Rattle.tn_tree.proofs.FirmLemmas.{net_own, worth_own}
@@ -74,7 +74,7 @@ pub record HaveLevels (market : UnitMarket) (pins : List Pin) (sold bought level
       → get_or levels (pin_place market k) 0 ≤ 2 * unbounded
 
 -- what roots bring, trade by trade
-roots_bring : (market : UnitMarket) (label : ℕ → ℤ) (sold bought : List ℕ) → IsUnitMarket market
+roots_bring : (market : UnitMarket) (label : ℕ → ℤ) (sold bought : List ℕ) → IsWideMarket market
     → total (λ f. (label (null_node market) -ℤ label (root_node market f)) *ℤ firm_net market sold bought f) market.firms
     ≡ total (λ t. (label (null_node market) -ℤ label (root_node market (trade_at market.trades.items t).buyer))
     *ℤ pos (count_in bought t)
@@ -117,7 +117,7 @@ roots_bring market label sold bought is =
 
 -- so all links together pull nothing
 levels_pull : (market : UnitMarket) (pins : List Pin) (links : List Link) (sold bought levels : List ℕ) (label : ℕ → ℤ)
-    → IsUnitMarket market → AreLinksOf market pins links → length levels ≡ length links
+    → IsWideMarket market → AreLinksOf market pins links → length levels ≡ length links
     → HaveLevels market pins sold bought levels → tension links levels label ≡ pos 0
 levels_pull market pins links sold bought levels label is of sized have =
     let placed_is = tension_placed links levels label sized in
@@ -196,7 +196,7 @@ levels_pull market pins links sold bought levels label is of sized have =
         omega (arith, ints, same, ends, first, one, two, three, four, five, six, seven)
 
 -- what a firm buys less what it sells is within the units of all trades
-pub firm_small : (market : UnitMarket) (sold bought : List ℕ) (f : ℕ) → IsUnitMarket market
+pub firm_small : (market : UnitMarket) (sold bought : List ℕ) (f : ℕ) → IsWideMarket market
     → AreCounts market.trades.items (count_in sold) → AreCounts market.trades.items (count_in bought)
     → IsAtMost (firm_net market sold bought f) most_market_units
 firm_small market sold bought f is few fewer =
@@ -208,7 +208,7 @@ firm_small market sold bought f is few fewer =
 
 -- and no level is beyond its link's steps
 levels_within : (market : UnitMarket) (pins : List Pin) (links : List Link) (sold bought levels : List ℕ)
-    → IsUnitMarket market → AreLinksOf market pins links → AreCounts market.trades.items (count_in sold)
+    → IsWideMarket market → AreLinksOf market pins links → AreCounts market.trades.items (count_in sold)
     → AreCounts market.trades.items (count_in bought) → HaveLevels market pins sold bought levels
     → AreAll market pins (λ j shape. get_or levels j 0 ≤ room shape.steps)
 levels_within market pins links sold bought levels is of few fewer have = record {
@@ -223,7 +223,7 @@ levels_within market pins links sold bought levels is of few fewer have = record
 }
 
 pub levels_kept : (market : UnitMarket) (pins : List Pin) (links : List Link) (sold bought levels : List ℕ)
-    → IsUnitMarket market → AreLinksOf market pins links → AreCounts market.trades.items (count_in sold)
+    → IsWideMarket market → AreLinksOf market pins links → AreCounts market.trades.items (count_in sold)
     → AreCounts market.trades.items (count_in bought) → length levels ≡ length links
     → HaveLevels market pins sold bought levels → IsKeptFlow links levels
 levels_kept market pins links sold bought levels is of few fewer sized have = record {
@@ -240,7 +240,7 @@ levels_kept market pins links sold bought levels is of few fewer sized have = re
 -- ---- the levels of a list
 
 -- where a firm's counts are possible, each of its sets has a level
-set_there : (market : UnitMarket) (sold bought : List ℕ) → IsUnitMarket market
+set_there : (market : UnitMarket) (sold bought : List ℕ) → IsWideMarket market
     → ArePossible market (own_counts market.trades.items sold bought) → (i : ℕ) (set : CountSet)
     → slice_get market.sets.items i ≡ Some set
     → (level : ℕ) × (net_at market sold bought i +ℤ pos set.back ≡ pos level) × (level ≤ room set.steps.items)
@@ -350,12 +350,13 @@ levels_size market nets sold bought sold_all bought_all =
     omega (arith, first, roots, two, three, four, sold_all, bought_all)
 
 -- such a list has the levels of its counts, where nothing is pinned
-pub free_levels : (market : UnitMarket) (nets : List ℤ) (counts levels : List ℕ) → IsUnitMarket market
+pub free_levels : (market : UnitMarket) (pins : List Pin) (nets : List ℤ) (counts levels : List ℕ) → IsWideMarket market
     → AreCounts market.trades.items (count_in counts)
     → ArePossible market (own_counts market.trades.items counts counts) → HaveNets market counts counts nets
-    → AreListed market nets counts counts levels → HaveLevels market [] counts counts levels
-unfolding total
-free_levels market nets counts levels is few possible have list = record {
+    → AreListed market nets counts counts levels
+    → ((k : ℕ) → k < length pins → get_or levels (pin_place market k) 0 ≡ unbounded)
+    → HaveLevels market pins counts counts levels
+free_levels market pins nets counts levels is few possible have list idle = record {
   sets = λ i set at.
       let there = set_there market counts counts is possible i set at in
       let inside = slice_get_within market.sets.items i set at in
@@ -375,9 +376,11 @@ free_levels market nets counts levels is few possible have list = record {
       omega (arith, ints, level_is, net, abs);
   sellers = list.sellers;
   buyers = list.buyers;
-  pins_bring = λ label. sym (total-zero (apart_term market label counts counts) (length market.trades.items)
+  pins_bring = λ label. total-zero (pin_term (pull label) market pins levels) (length pins)
+      (λ k below. idle_pin label k (slice_get pins k) (idle k below))
+      ∙ sym (total-zero (apart_term market label counts counts) (length market.trades.items)
       (λ t below. nothing (label (null_node market) -ℤ label (trade_node market t)) (pos (count_in counts t))));
-  pins_within = λ k pin at. absurd (none-some pin at);
+  pins_within = λ k pin at. let here = idle k (slice_get_within pins k pin at) in omega (arith, here);
 }
   where
     above_zero : (z : ℤ) → pos 0 ≤ℤ z → pos (unsigned_abs z) ≡ z
@@ -386,6 +389,13 @@ free_levels market nets counts levels is few possible have list = record {
 
     nothing : (a u : ℤ) → a *ℤ (u -ℤ u) ≡ pos 0
     nothing a u = let parts = times-minus a u u in omega (arith, ints, parts)
+
+    idle_pin : (label : ℕ → ℤ) (k : ℕ) (o : Option Pin) → get_or levels (pin_place market k) 0 ≡ unbounded
+        → pin_in (pull label) market (get_or levels (pin_place market k) 0) o ≡ pos 0
+    idle_pin label k None here = refl
+    idle_pin label k (Some pin) here =
+        ap (λ (n : ℕ). pull label (pin_shape market pin) n) here
+        ∙ nothing (label (null_node market) -ℤ label (trade_node market pin.trade)) (pos unbounded)
 
 -- counts that all have are each firm's own
 pub own_all : (market : UnitMarket) (counts : List ℕ) (f t : ℕ)
@@ -405,19 +415,33 @@ own_possible market counts possible f below =
           (λ t inside own. own_all market counts f t)) ∙ has.1,
     )
 
-pub free_flow : (market : UnitMarket) (links : List Link) (nets : List ℤ) (counts levels : List ℕ) → IsUnitMarket market
-    → AreLinksOf market [] links → length counts ≡ length market.trades.items
+pub free_flow : (market : UnitMarket) (pins : List Pin) (links : List Link) (nets : List ℤ) (counts levels : List ℕ)
+    → IsWideMarket market → AreLinksOf market pins links → length counts ≡ length market.trades.items
     → AreCounts market.trades.items (count_in counts) → ArePossible market (λ f. count_in counts)
-    → HaveNets market counts counts nets → levels ≡ levels_by market nets counts counts
-    → IsKeptFlow links levels
-    × ((t : ℕ) → t < length market.trades.items → sold_at market levels t ≡ count_in counts t)
-free_flow market links nets counts levels is of sized few possible have made =
-    let list = listed market nets counts counts [] levels sized sized
-    (made ∙ sym (append-nil (levels_by market nets counts counts))) in
-    let size = levels_size market nets counts counts sized sized in
+    → HaveNets market counts counts nets
+    → levels ≡ levels_by market nets counts counts ++ map (λ k. unbounded) (range_with_len 0 (length pins))
+    → IsKeptFlow links levels × AreLevelsOf market pins (count_in counts) levels
+free_flow market pins links nets counts levels is of sized few possible have made =
+    let list = listed market nets counts counts rest levels sized sized made in
     let count = ap length made in
-    let all = of.all in (
-      levels_kept market [] links counts counts levels is of few few (omega (arith, size, count, all))
-          (free_levels market nets counts levels is few (own_possible market counts possible) have list),
-      list.sellers,
+    let all = of.all in
+    let sum = length-append (levels_by market nets counts counts) rest in
+    let more = length-map-range_with_len (λ k. unbounded) 0 (length pins) in (
+      levels_kept market pins links counts counts levels is of few few (omega (arith, size, count, all, sum, more))
+          (free_levels market pins nets counts levels is few (own_possible market counts possible) have list idle),
+      record { sold = list.sellers; bought = list.buyers; pinned = idle },
     )
+  where
+    rest : List ℕ
+    rest = map (λ k. unbounded) (range_with_len 0 (length pins))
+
+    size : length (levels_by market nets counts counts) ≡ pin_place market 0
+    size = levels_size market nets counts counts sized sized
+
+    idle : (k : ℕ) → k < length pins → get_or levels (pin_place market k) 0 ≡ unbounded
+    idle k below =
+        let place : pin_place market k ≡ length (levels_by market nets counts counts) + k = omega (arith, size) in
+        ap (λ (xs : List ℕ). get_or xs (pin_place market k) 0) made
+        ∙ ap (λ (j : ℕ). get_or (levels_by market nets counts counts ++ rest) j 0) place
+        ∙ get_or-append-add (levels_by market nets counts counts) rest k 0
+        ∙ get_or-map-range_with_len (λ j. unbounded) 0 (length pins) k k 0 below (omega arith)

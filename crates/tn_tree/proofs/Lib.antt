@@ -11,6 +11,8 @@ pub mod WalkLemmas
 pub mod StepLemmas
 pub mod SupportLemmas
 pub mod HeldLemmas
+pub mod ValueLemmas
+pub mod PinnedLemmas
 pub mod SurplusOfLemmas
 pub mod PathLemmas
 pub mod RangeLemmas

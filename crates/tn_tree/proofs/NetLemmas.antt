@@ -11,7 +11,7 @@ use Rattle.tn_links.specs.Totals.{total}
 use Rattle.tn_links.proofs.TotalLemmas.{times-minus, total-minus, total-most, total-same, total-zero, total_one}
 use Rattle.tn_counts.specs.Counts.{AreCounts, trade_at}
 use Rattle.tn_counts.specs.Laminar.{holds}
-use Rattle.tn_counts.specs.Markets.{IsUnitMarket}
+use Rattle.tn_counts.specs.Markets.{IsWideMarket}
 use Rattle.tn_counts.specs.Tree.{inner_node, root_node}
 use Rattle.tn_counts.specs.Widths.{most_market_units}
 use Rattle.tn_counts.specs.declared.market.UnitMarket.{UnitMarket}
@@ -76,7 +76,7 @@ root_at market sold bought v t =
     pos (count_in bought t) *ℤ at_node v (root_node market (trade_at market.trades.items t).buyer)
     -ℤ pos (count_in sold t) *ℤ at_node v (root_node market (trade_at market.trades.items t).seller)
 
-nets_sum : (market : UnitMarket) (sold bought : List ℕ) (v : ℕ) → IsUnitMarket market
+nets_sum : (market : UnitMarket) (sold bought : List ℕ) (v : ℕ) → IsWideMarket market
     → total (up_at market sold bought v) (length market.sets.items)
     -ℤ total (λ i. net_at market sold bought i *ℤ at_node v i) (length market.sets.items)
     ≡ total (root_at market sold bought v) (length market.trades.items)
@@ -120,7 +120,7 @@ nets_sum market sold bought v is =
         omega (arith, ints, buys, sells, first, second)
 
 -- so what flows into the node of a set is its net count
-pub set_in_is : (market : UnitMarket) (sold bought : List ℕ) (v : ℕ) → IsUnitMarket market → v < length market.sets.items
+pub set_in_is : (market : UnitMarket) (sold bought : List ℕ) (v : ℕ) → IsWideMarket market → v < length market.sets.items
     → flows_in market sold bought (length market.sets.items) v ≡ net_at market sold bought v
 set_in_is market sold bought v is below =
     let whole = nets_sum market sold bought v is in
@@ -152,7 +152,7 @@ set_in_is market sold bought v is below =
         omega (arith, ints, first, second)
 
 -- and that into a root is what its firm buys less what it sells
-pub root_in_is : (market : UnitMarket) (sold bought : List ℕ) (f : ℕ) → IsUnitMarket market
+pub root_in_is : (market : UnitMarket) (sold bought : List ℕ) (f : ℕ) → IsWideMarket market
     → flows_in market sold bought (length market.sets.items) (root_node market f) ≡ firm_net market sold bought f
 root_in_is market sold bought f is =
     let v = root_node market f in
@@ -201,7 +201,7 @@ up_until market sold bought v (suc d) within =
     let whole = ap (total (up_at market sold bought v)) next in
     omega (arith, ints, before, none, whole)
 
-pub set_in_now : (market : UnitMarket) (sold bought : List ℕ) (v : ℕ) → IsUnitMarket market → v < length market.sets.items
+pub set_in_now : (market : UnitMarket) (sold bought : List ℕ) (v : ℕ) → IsWideMarket market → v < length market.sets.items
     → flows_in market sold bought v v ≡ net_at market sold bought v
 set_in_now market sold bought v is below =
     let all = set_in_is market sold bought v is below in
@@ -223,7 +223,7 @@ total_small f g n each =
     (omega (arith, ints, low, parts, zeros), high)
 
 -- what is within the units of each trade is in sum within those of all
-pub units_small : (market : UnitMarket) (f : ℕ → ℤ) → IsUnitMarket market
+pub units_small : (market : UnitMarket) (f : ℕ → ℤ) → IsWideMarket market
     → ((t : ℕ) → t < length market.trades.items → ((pos 0 -ℤ pos (trade_at market.trades.items t).units) ≤ℤ f t)
     × (f t ≤ℤ pos (trade_at market.trades.items t).units))
     → IsAtMost (total f (length market.trades.items)) most_market_units
@@ -242,7 +242,7 @@ one_side true false sold bought units few fewer = (omega (arith, ints, few, fewe
 one_side false true sold bought units few fewer = (omega (arith, ints, few, fewer), omega (arith, ints, few, fewer))
 one_side false false sold bought units few fewer = (omega (arith, ints, few, fewer), omega (arith, ints, few, fewer))
 
-pub net_small : (market : UnitMarket) (sold bought : List ℕ) (i : ℕ) → IsUnitMarket market
+pub net_small : (market : UnitMarket) (sold bought : List ℕ) (i : ℕ) → IsWideMarket market
     → AreCounts market.trades.items (count_in sold) → AreCounts market.trades.items (count_in bought)
     → IsAtMost (net_at market sold bought i) most_market_units
 net_small market sold bought i is few fewer = by (slice_get market.sets.items i)
@@ -265,7 +265,7 @@ net_small market sold bought i is few fewer = by (slice_get market.sets.items i)
         (λ t. if holds set t then moved set.firm (trade_at market.trades.items t) (pos (count_in sold t)) (pos (count_in bought t)) else pos 0)
         is (λ t below. within set t below (holds set t))
 
-pub ends_small : (market : UnitMarket) (sold bought : List ℕ) (v : ℕ) → IsUnitMarket market
+pub ends_small : (market : UnitMarket) (sold bought : List ℕ) (v : ℕ) → IsWideMarket market
     → AreCounts market.trades.items (count_in sold) → AreCounts market.trades.items (count_in bought)
     → IsAtMost (total (end_at market sold bought v) (length market.trades.items)) most_market_units
 ends_small market sold bought v is few fewer =
@@ -274,7 +274,7 @@ ends_small market sold bought v is few fewer =
     (v == inner_node market (trade_at market.trades.items t).buyer t)
     (count_in sold t) (count_in bought t) (trade_at market.trades.items t).units (few t below) (fewer t below))
 
-ups_small : (market : UnitMarket) (sold bought : List ℕ) (v k : ℕ) → IsUnitMarket market
+ups_small : (market : UnitMarket) (sold bought : List ℕ) (v k : ℕ) → IsWideMarket market
     → AreCounts market.trades.items (count_in sold) → AreCounts market.trades.items (count_in bought)
     → IsAtMost (total (up_at market sold bought v) k) (k * 1048576)
 unfolding total
@@ -293,7 +293,7 @@ ups_small market sold bought v (suc k) is few fewer =
     by true net = record { low = omega (arith, ints, net.low); high = omega (arith, ints, net.high) }
     by false net = record { low = omega (arith, ints); high = omega (arith, ints) }
 
-pub flows_small : (market : UnitMarket) (sold bought : List ℕ) (k v : ℕ) → IsUnitMarket market
+pub flows_small : (market : UnitMarket) (sold bought : List ℕ) (k v : ℕ) → IsWideMarket market
     → AreCounts market.trades.items (count_in sold) → AreCounts market.trades.items (count_in bought) → k ≤ 4096
     → IsAtMost (flows_in market sold bought k v) most_sum
 flows_small market sold bought k v is few fewer sets =
@@ -307,7 +307,7 @@ flows_small market sold bought k v is few fewer sets =
 -- ---- node by node
 
 -- the first trades bring few units to a node
-pub ends_so_far : (market : UnitMarket) (sold bought : List ℕ) (v k : ℕ) → IsUnitMarket market
+pub ends_so_far : (market : UnitMarket) (sold bought : List ℕ) (v k : ℕ) → IsWideMarket market
     → AreCounts market.trades.items (count_in sold) → AreCounts market.trades.items (count_in bought)
     → k ≤ length market.trades.items → IsAtMost (total (end_at market sold bought v) k) (k * 1048576)
 unfolding total
@@ -325,7 +325,7 @@ ends_so_far market sold bought v (suc k) is few fewer within =
       high = omega (arith, ints, before.high, here.1, units, all);
     }
 
-pub ends_sum : (market : UnitMarket) (sold bought : List ℕ) (numbers : List ℤ) (k v : ℕ) → IsUnitMarket market
+pub ends_sum : (market : UnitMarket) (sold bought : List ℕ) (numbers : List ℤ) (k v : ℕ) → IsWideMarket market
     → AreCounts market.trades.items (count_in sold) → AreCounts market.trades.items (count_in bought)
     → k ≤ length market.trades.items → get_or numbers v (pos 0) ≡ total (end_at market sold bought v) k
     → IsAtMost (get_or numbers v (pos 0)) (10 ^ 12)
@@ -373,7 +373,7 @@ ends_more market sold bought before middle after p q k v b s p_in q_in so_far fi
 
 -- and after a set's net count was brought to the node above it
 pub up_more : (market : UnitMarket) (sold bought : List ℕ) (before after : List ℤ) (p k v : ℕ) (net : ℤ)
-    → IsUnitMarket market → k < length market.sets.items → p < length before
+    → IsWideMarket market → k < length market.sets.items → p < length before
     → ((w : ℕ) → get_or before w (pos 0) ≡ flows_in market sold bought k w)
     → net ≡ get_or before k (pos 0) → after ≡ set before p (get_or before p (pos 0) +ℤ net) → p ≡ above market k
     → get_or after v (pos 0) ≡ flows_in market sold bought (k + 1) v
@@ -399,7 +399,7 @@ nothing_up market sold bought numbers v is = omega (arith, ints, is)
 pub few_units : {z : ℤ} → IsAtMost z (10 ^ 12) → IsAtMost z most_sum
 few_units {z} small = record { low = omega (arith, ints, small.low); high = omega (arith, ints, small.high) }
 
-pub one_more : (market : UnitMarket) (bought : List ℕ) (before after : List ℤ) (p q k : ℕ) → IsUnitMarket market
+pub one_more : (market : UnitMarket) (bought : List ℕ) (before after : List ℤ) (p q k : ℕ) → IsWideMarket market
     → AreCounts market.trades.items (count_in bought) → k < length market.trades.items → p < length before
     → after ≡ set before p (get_or before p (pos 0) +ℤ pos (count_in bought k))
     → IsAtMost (get_or before q (pos 0)) (10 ^ 12) → IsAtMost (get_or after q (pos 0)) most_sum

@@ -26,6 +26,7 @@ use Rattle.tn_counts.proofs.RangeLemmas.{prices_walks}
 use Rattle.tn_counts.proofs.SizeLemmas.{unit_arcs_small}
 use Rattle.tn_counts.proofs.SurplusLemmas.{equilibrium_same, flow_of, have_firms, labels_equilibrium}
 use Rattle.tn_counts.proofs.WelfareLemmas.{equilibria_efficient}
+use Rattle.tn_counts.proofs.WideLemmas.{wide_market}
 use Rattle.tn_tree.specs.declared.range.UnitRange.{UnitRange}
 use Rattle.tn_tree.specs.Lists.{count_in}
 use Rattle.tn_tree.specs.declared.steps.UnitStep.{UnitStep}
@@ -91,11 +92,11 @@ range-same market from_null to_null from_now to_now node range one two is = reco
 -- ---- costs of least walks are small
 
 walk_cost_small : (market : UnitMarket) (links : List Link) (levels : List ℕ) (label : ℕ → ℤ) (u w : ℕ) (listed : List ℕ)
-    (o : Option ℤ) → IsSettled market links levels label → u < suc (null_node market) → u ≢ w
+    (o : Option ℤ) → IsUnitMarket market → IsSettled market links levels label → u < suc (null_node market) → u ≢ w
     → w < suc (null_node market) → LeadsLeast (link_arc links levels 1) u w listed o
     → IfSome o (λ cost. IsAtMost cost most_unit_price)
-walk_cost_small market links levels label u w listed None settled u_inside other w_inside none = tt
-walk_cost_small market links levels label u w listed (Some cost) settled u_inside other w_inside path =
+walk_cost_small market links levels label u w listed None is settled u_inside other w_inside none = tt
+walk_cost_small market links levels label u w listed (Some cost) is settled u_inside other w_inside path =
     let nodes : ℕ = suc (null_node market) in
     let arc : ℕ → ℕ → Option ℤ = link_arc links levels 1 in
     let between : AreBetweenNodes nodes arc = between-link_arc nodes links levels 1
@@ -103,10 +104,10 @@ walk_cost_small market links levels label u w listed (Some cost) settled u_insid
     let few = few_apart nodes w (u ∷ path.inner) w_inside
     (All-cons (λ v. v < nodes) u path.inner u_inside (walk_inside nodes arc between u path.inner w cost path.least.walk))
     (avoids-cons w u path.inner other path.ends) (apart_from_different (u ∷ path.inner) path.different) in
-    let sets = settled.market_is.few_sets in
-    let firms = settled.market_is.few_firms in
-    let trades = settled.market_is.few_trades in
-    let small = walk_small arc most_unit_amount (unit_arcs_small market links levels settled.market_is settled.of) u
+    let sets = is.few_sets in
+    let firms = is.few_firms in
+    let trades = is.few_trades in
+    let small = walk_small arc most_unit_amount (unit_arcs_small market links levels is settled.of) u
     path.inner w cost path.least.walk in
     arcs_small (length path.inner) cost (omega (arith, few, sets, firms, trades)) small
 
@@ -114,6 +115,7 @@ walk_cost_small market links levels label u w listed (Some cost) settled u_insid
 
 pub record AreFound (market : UnitMarket) (links : List Link) (levels : List ℕ) (label : ℕ → ℤ) (from_null to_null : Reading) :
     Type 0 where
+  pub is : IsUnitMarket market
   pub settled : IsSettled market links levels label
   pub lead_from : LeadFromNull market links levels (walk_in from_null) (distance_in from_null)
   pub lead_to : LeadToNull market links levels (walk_in to_null) (distance_in to_null)
@@ -124,7 +126,7 @@ module _ (market : UnitMarket) (links : List Link) (levels : List ℕ) (label : 
       → IfSome (distance_in to_null (trade_node market t)) (λ cost. IsAtMost cost most_unit_price)
   low_small t below =
       walk_cost_small market links levels label (trade_node market t) (null_node market)
-      (walk_in to_null (trade_node market t)) (distance_in to_null (trade_node market t)) found.settled
+      (walk_in to_null (trade_node market t)) (distance_in to_null (trade_node market t)) found.is found.settled
       (omega (arith, below)) (λ e. omega (arith, e, below)) (omega arith)
       (found.lead_to (trade_node market t) (omega (arith, below)))
 
@@ -132,7 +134,7 @@ module _ (market : UnitMarket) (links : List Link) (levels : List ℕ) (label : 
       → IfSome (distance_in from_null (trade_node market t)) (λ cost. IsAtMost cost most_unit_price)
   high_small t below =
       walk_cost_small market links levels label (null_node market) (trade_node market t)
-      (walk_in from_null (trade_node market t)) (distance_in from_null (trade_node market t)) found.settled
+      (walk_in from_null (trade_node market t)) (distance_in from_null (trade_node market t)) found.is found.settled
       (omega arith) (λ e. omega (arith, e, below)) (omega (arith, below))
       (found.lead_from (trade_node market t) (omega (arith, below)))
 
@@ -298,7 +300,8 @@ pub found_by : (market : UnitMarket) (links : List Link) (levels first second : 
     → AreFound market links levels (label_in labels) from_null to_null
 found_by market links levels first second labels nodes null from_null to_null is of kept are last sized one two from to =
     record {
-      settled = record { market_is = is; of = of; kept = kept; keeps = are.keeps };
+      is = is;
+      settled = record { market_is = wide_market market is; of = of; kept = kept; keeps = are.keeps };
       lead_from = λ v below.
           subst (λ (n : ℕ). LeadsLeast (link_arc links levels 1) n v (walk_in from_null v) (distance_in from_null v)) last
           (subst (λ (xs : List ℕ). LeadsLeast (link_arc links xs 1) null v (walk_in from_null v) (distance_in from_null v))

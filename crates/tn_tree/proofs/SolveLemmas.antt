@@ -17,7 +17,7 @@ use Rattle.tn_links.specs.Lots.{link_arc}
 use Rattle.tn_links.specs.Widths.{most_each}
 use Rattle.tn_counts.specs.Counts.{IsBestCount, IsEquilibriumByCounts, count_surplus, count_utility, trade_at}
 use Rattle.tn_counts.specs.Laminar.{constants, firm_of, firms_of}
-use Rattle.tn_counts.specs.Markets.{ArePins, IsUnitMarket}
+use Rattle.tn_counts.specs.Markets.{ArePins, IsUnitMarket, IsWideMarket}
 use Rattle.tn_counts.specs.Tree.{AreLinksOf, counts_at, null_node, price_by, sold_at, trade_node}
 use Rattle.tn_counts.specs.Widths.{most_set_units, most_unit_amount, most_unit_price, most_unit_surplus}
 use Rattle.tn_counts.specs.declared.market.Pin.{Pin}
@@ -26,6 +26,7 @@ use Rattle.tn_counts.proofs.PlainLemmas.{links_plain}
 use Rattle.tn_counts.proofs.PriceLemmas.{prices_are}
 use Rattle.tn_counts.proofs.SizeLemmas.{unit_arcs_small}
 use Rattle.tn_counts.proofs.SurplusLemmas.{best_same, equilibrium_same, flows_counts, labels_equilibrium, prices_same, surplus_same}
+use Rattle.tn_counts.proofs.WideLemmas.{wide_market}
 use Rattle.tn_tree.proofs.BuildLemmas.{range_get}
 use Rattle.tn_tree.specs.Lists.{count_in, own_counts, pin_of, price_in}
 
@@ -115,7 +116,7 @@ equilibrium_read market links levels labels nodes counts prices n place is of ke
     (λ t below. levels_read levels counts n place (length market.sets.items + market.firms) t counted
     (omega (arith, below, sized)) (omega (arith, at)))
     (λ t below. read_at (price_by market (label_in labels)) prices (length market.trades.items) t (pos 0) priced below)
-    (labels_equilibrium market links levels (label_in labels) is of kept are.keeps)
+    (labels_equilibrium market links levels (label_in labels) (wide_market market is) of kept are.keeps)
 
 pub surplus_read : (market : UnitMarket) (links : List Link) (levels : List ℕ) (counts : List ℕ) (n place : ℕ)
     (surplus : ℤ) → IsUnitMarket market → AreLinksOf market [] links → IsKeptFlow links levels
@@ -127,7 +128,7 @@ surplus_read market links levels counts n place surplus is of kept sized at coun
     sym (surplus_same market (sold_at market levels) (count_in counts)
     (λ t below. levels_read levels counts n place (length market.sets.items + market.firms) t counted
     (omega (arith, below, sized)) (omega (arith, at))))
-    ∙ (flows_counts market links levels is of kept).surplus ∙ ap Some (sym sum)
+    ∙ (flows_counts market links levels (wide_market market is) of kept).surplus ∙ ap Some (sym sum)
 
 -- ---- pins of all trades
 
@@ -165,7 +166,7 @@ pins_are trades prices pins made sized small = record {
 }
 
 pub best_read : (market : UnitMarket) (prices : List ℤ) (pins : List Pin) (links : List Link) (levels : List ℕ)
-    (labels : List ℤ) (nodes : ℕ) (sold bought : List ℕ) (n place after : ℕ) → IsUnitMarket market
+    (labels : List ℤ) (nodes : ℕ) (sold bought : List ℕ) (n place after : ℕ) → IsWideMarket market
     → ArePins (length market.trades.items) pins → pins ≡ map (pin_of prices) (range_with_len 0 (length prices))
     → length prices ≡ length market.trades.items → AreLinksOf market pins links → IsKeptFlow links levels
     → AreLabels nodes (link_arc links levels 1) labels → n ≡ length market.trades.items → place ≡ trade_node market 0

@@ -12,7 +12,7 @@ use Rattle.tn_links.specs.LotLemmas.{arc_of, ends_of, joins_by}
 use Rattle.tn_links.specs.Lots.{link_arc, pushed}
 use Rattle.tn_links.proofs.RoundLemmas.{cycles_gain}
 use Rattle.tn_counts.specs.Counts.{trade_at}
-use Rattle.tn_counts.specs.Markets.{IsUnitMarket}
+use Rattle.tn_counts.specs.Markets.{IsWideMarket}
 use Rattle.tn_counts.specs.Tree.{AreLinksOf, HasLink, LinkShape, bought_at, buyer_place, buyer_shape, inner_node, null_node, root_node, seller_place, seller_shape, shape_of, sold_at, trade_node}
 use Rattle.tn_counts.specs.declared.market.UnitMarket.{UnitMarket}
 use Rattle.tn_counts.proofs.FlowLemmas.{IsFlowOf}
@@ -44,7 +44,7 @@ inner_below market f t below =
 abbrev HasEnd : LinkShape → ℕ → ℕ → Type 0
 HasEnd shape a v = ((shape.tail ≡ a) × (shape.head ≡ v)) ⊎ ((shape.tail ≡ v) × (shape.head ≡ a))
 
-module _ (market : UnitMarket) (links : List Link) (is : IsUnitMarket market) (of : AreLinksOf market [] links)
+module _ (market : UnitMarket) (links : List Link) (is : IsWideMarket market) (of : AreLinksOf market [] links)
     (plain : ArePlain (suc (null_node market)) links) where
   -- a trade's links lead to these two
   two_ends : (k : ℕ) → k < length market.trades.items → (j : ℕ) (link : Link) → slice_get links j ≡ Some link → (a : ℕ)

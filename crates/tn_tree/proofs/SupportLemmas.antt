@@ -20,6 +20,7 @@ use Rattle.tn_counts.specs.Widths.{most_unit_amount, most_unit_price}
 use Rattle.tn_counts.specs.declared.market.UnitMarket.{UnitMarket}
 use Rattle.tn_counts.proofs.SizeLemmas.{unit_arcs_small}
 use Rattle.tn_counts.proofs.SurplusLemmas.{best_same, cycles_bar, cycles_more, equilibrium_same, firm_at, flow_of, labels_equilibrium, surplus_same, worth_same}
+use Rattle.tn_counts.proofs.WideLemmas.{wide_market}
 use Rattle.tn_tree.specs.declared.steps.UnitStep.{UnitStep}
 use Rattle.tn_tree.specs.Steps.{AreOnce, entered, units_by}
 use Rattle.tn_tree.specs.Supports.{AreGain, AreSupports, FindsNone, IsFirstUnable, IsUnsupported, SupportsByCounts}
@@ -43,7 +44,7 @@ supports market links levels labels nodes prices is of kept are sized priced = r
   equilibrium = equilibrium_same market (sold_at market levels) (sold_at market levels) (price_by market (label_in labels))
       (price_in prices) (λ t below. refl)
       (λ t below. read_at (price_by market (label_in labels)) prices (length market.trades.items) t (pos 0) priced below)
-      (labels_equilibrium market links levels (label_in labels) is of kept are.keeps);
+      (labels_equilibrium market links levels (label_in labels) (wide_market market is) of kept are.keeps);
   small = prices_small market links levels labels nodes prices is of are sized priced;
 }
 
@@ -52,7 +53,7 @@ pub inside_of : (market : UnitMarket) (links : List Link) (levels listed : List 
     → IsNegative nodes (link_arc links levels 1) listed cost count → All (λ v. v < suc (null_node market)) listed
 inside_of market links levels listed nodes count cost is of kept found =
     (round_of (suc (null_node market)) nodes (link_arc links levels 1) listed cost count
-    (between-link_arc (suc (null_node market)) links levels 1 (flow_of market links levels is of kept).plain) found).inside
+    (between-link_arc (suc (null_node market)) links levels 1 (flow_of market links levels (wide_market market is) of kept).plain) found).inside
 
 cycle_small : (market : UnitMarket) (links : List Link) (levels : List ℕ) (first : ℕ) (rest : List ℕ) (cost : ℤ)
     → IsUnitMarket market → AreLinksOf market [] links → All (λ v. v < suc (null_node market)) (first ∷ rest)
@@ -77,7 +78,7 @@ pub gains : (market : UnitMarket) (links : List Link) (levels listed : List ℕ)
     → AreGain market (sold_at market levels) steps cost × IsUnsupported market (sold_at market levels)
 gains market links levels listed nodes count cost steps is of kept found made =
     let gain : IsGain links levels 1 found.first found.rest cost = record { negative = found.negative; cycle = found.cycle } in
-    let flow = flow_of market links levels is of kept in
+    let flow = flow_of market links levels (wide_market market is) of kept in
     let all : List ℕ = found.first ∷ found.rest in
     let steps_are : steps ≡ entered market (get_or all (length all - 1) 0) all =
     made ∙ ap (λ (xs : List ℕ). entered market (get_or xs (length xs - 1) 0) xs) found.nodes_are in
@@ -96,9 +97,9 @@ gains market links levels listed nodes count cost steps is of kept found made =
             below in
             let same = ap (λ (xs : List (Option UnitStep)). units_by xs t) steps_are in
             omega (arith, ints, round, same);
-        more = cycles_more market links levels 1 found.first found.rest cost is of kept gain;
+        more = cycles_more market links levels 1 found.first found.rest cost (wide_market market is) of kept gain;
       },
-      cycles_bar market links levels 1 found.first found.rest cost is of kept gain,
+      cycles_bar market links levels 1 found.first found.rest cost (wide_market market is) of kept gain,
     )
 
 -- ---- counts that are the same of each trade

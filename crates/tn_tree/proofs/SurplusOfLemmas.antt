@@ -11,6 +11,7 @@ use Rattle.tn_counts.specs.Markets.{IsUnitMarket}
 use Rattle.tn_counts.specs.Tree.{AreLinksOf, sold_at}
 use Rattle.tn_counts.specs.declared.market.UnitMarket.{UnitMarket}
 use Rattle.tn_counts.proofs.SurplusLemmas.{flows_counts, surplus_same}
+use Rattle.tn_counts.proofs.WideLemmas.{wide_market}
 use Rattle.tn_tree.specs.Levels.{ArePossible}
 use Rattle.tn_tree.specs.Lists.{count_in, own_counts}
 use Rattle.tn_tree.proofs.FirmLemmas.{worth_own}
@@ -71,4 +72,4 @@ pub surplus_by_flow : (market : UnitMarket) (links : List Link) (levels counts :
     → count_surplus (firms_of market) (count_in counts) ≡ Some (total_gain links levels +ℤ constants market.sets.items)
 surplus_by_flow market links levels counts is of kept same =
     sym (surplus_same market (sold_at market levels) (count_in counts) same)
-    ∙ (flows_counts market links levels is of kept).surplus
+    ∙ (flows_counts market links levels (wide_market market is) of kept).surplus

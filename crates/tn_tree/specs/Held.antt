@@ -21,6 +21,17 @@ abbrev pub IsSmall : Option ℤ → Type 0
 IsSmall number = (value : ℤ) → number ≡ Some value → IsAtMost value most_unit_surplus
 
 -- of firm f: what its counts are worth, their utility at the prices, the best it could have, and what it would gain
+pub record IsHeldAt (trades : List UnitTrade) (f : ℕ) (firm : CountFirm) (counts : List ℕ) (prices : List ℤ)
+    (sold bought : List ℕ) (said : FirmCount) : Type 0 where
+  pub worth_is : said.worth ≡ firm.worth (count_in counts)
+  pub utility_is : said.utility ≡ utility_at trades prices f firm (count_in counts)
+  pub best_is : IsBestCount trades (utility_at trades prices f firm) (own_counts trades sold bought f) said.best
+  pub gain_is : said.gain ≡ option_map (λ utility. said.best -ℤ utility) said.utility
+  -- where no counts have more than its own, the best ones are its own
+  pub own : said.gain ≡ Some (pos 0) → (t : ℕ) → t < length trades → HasEnd f (trade_at trades t)
+      → own_counts trades sold bought f t ≡ count_in counts t
+
+-- the same, where each number is one of a claim
 pub record IsHeld (trades : List UnitTrade) (f : ℕ) (firm : CountFirm) (counts : List ℕ) (prices : List ℤ)
     (sold bought : List ℕ) (said : FirmCount) : Type 0 where
   pub worth_is : said.worth ≡ firm.worth (count_in counts)
@@ -30,7 +41,7 @@ pub record IsHeld (trades : List UnitTrade) (f : ℕ) (firm : CountFirm) (counts
   -- where no counts have more than its own, the best ones are its own
   pub own : said.gain ≡ Some (pos 0) → (t : ℕ) → t < length trades → HasEnd f (trade_at trades t)
       → own_counts trades sold bought f t ≡ count_in counts t
-  -- each number is one of a claim
+  -- the numbers
   pub small_worth : IsSmall said.worth
   pub small_utility : IsSmall said.utility
   pub small_best : IsAtMost said.best most_unit_surplus

@@ -2,8 +2,9 @@
 use Rattle.std.specs.Prelude.{◌≡◌, ℕ, ◌<◌, ℤ, pos, ◌+ℤ◌, List, ◌++◌, length, map, get_or, slice_get, unsigned_abs, Option, Some, None}
 use Rattle.std.specs.List.{range_with_len}
 use Rattle.tn_counts.specs.Laminar.{firm_of}
-use Rattle.tn_counts.specs.Tree.{root_node}
+use Rattle.tn_counts.specs.Tree.{bought_at, pin_place, root_node, sold_at}
 use Rattle.tn_counts.specs.Widths.{unbounded}
+use Rattle.tn_counts.specs.declared.market.Pin.{Pin}
 use Rattle.tn_counts.specs.declared.market.UnitMarket.{UnitMarket}
 use Rattle.tn_counts.specs.declared.set.CountSet.{CountSet}
 
@@ -11,6 +12,12 @@ use Rattle.tn_counts.specs.declared.set.CountSet.{CountSet}
 abbrev pub ArePossible : UnitMarket → (ℕ → ℕ → ℕ) → Type 0
 ArePossible market counts =
     (f : ℕ) → f < market.firms → (worth : ℤ) × ((firm_of market f).worth (counts f) ≡ Some worth)
+
+-- the levels of a flow in which as much of each trade is bought as sold, these counts, so that nothing flows over pins
+pub record AreLevelsOf (market : UnitMarket) (pins : List Pin) (counts : ℕ → ℕ) (levels : List ℕ) : Type 0 where
+  pub sold : (t : ℕ) → t < length market.trades.items → sold_at market levels t ≡ counts t
+  pub bought : (t : ℕ) → t < length market.trades.items → bought_at market levels t ≡ counts t
+  pub pinned : (k : ℕ) → k < length pins → get_or levels (pin_place market k) 0 ≡ unbounded
 
 -- how many units the steps of a set have below a net count of 0
 abbrev pub back_in : Option CountSet → ℕ

@@ -6,4 +6,5 @@ pub mod Held
 pub mod Shapes
 pub mod Steps
 pub mod Supports
+pub mod Pinned
 pub mod Ranges

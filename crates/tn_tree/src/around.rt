@@ -3,7 +3,7 @@
 ghost use Rattle.std.specs.Prelude.{◌≡◌, ◌<◌, ◌-◌, ◌+◌, ◌≤◌, ◌==◌, ◌&&◌, length, Some, slice_get};
 ghost use Rattle.tn_counts.specs.declared.set.CountSet.{CountSet};
 ghost use Rattle.tn_counts.specs.Laminar.{holds};
-ghost use Rattle.tn_counts.specs.Markets.{IsUnitMarket};
+ghost use Rattle.tn_counts.specs.Markets.{IsWideMarket};
 ghost use Rattle.tn_counts.specs.Tree.{first_from, inner_node, node_above, null_node, root_node, trade_node};
 ghost use Rattle.tn_counts.specs.Widths.{most_count_sets};
 
@@ -32,7 +32,7 @@ fn first_from(sets: &[CountSet], firm: u32, trade: u32, root: u32, from: u32) ->
 
 /// The node of a firm's root.
 pub(crate) fn root_node(market: &UnitMarket, firm: u32) -> u32
-    requires market { IsUnitMarket market.now }
+    requires market { IsWideMarket market.now }
     requires known { firm < market.now.firms }
     ensures { result ≡ root_node market.now firm }
 {
@@ -41,7 +41,7 @@ pub(crate) fn root_node(market: &UnitMarket, firm: u32) -> u32
 
 /// The node of a trade, or of null after the last one.
 pub(crate) fn trade_node(market: &UnitMarket, trade: u32) -> u32
-    requires market { IsUnitMarket market.now }
+    requires market { IsWideMarket market.now }
     requires known { trade ≤ length market.now.trades.items }
     ensures { result ≡ trade_node market.now trade }
 {
@@ -50,7 +50,7 @@ pub(crate) fn trade_node(market: &UnitMarket, trade: u32) -> u32
 
 /// The node at which a trade stands at a firm.
 pub(crate) fn inner_node(market: &UnitMarket, firm: u32, trade: u32) -> u32
-    requires market { IsUnitMarket market.now }
+    requires market { IsWideMarket market.now }
     requires known { firm < market.now.firms }
     ensures { result ≡ inner_node market.now firm trade }
 {
@@ -59,7 +59,7 @@ pub(crate) fn inner_node(market: &UnitMarket, firm: u32, trade: u32) -> u32
 
 /// The node above a set.
 pub(crate) fn node_above(market: &UnitMarket, i: u32) -> u32
-    requires market { IsUnitMarket market.now }
+    requires market { IsWideMarket market.now }
     requires inside { i < length market.now.sets.items }
     ensures { (set : CountSet) → slice_get market.now.sets.items i ≡ Some set
         → result ≡ node_above market.now i set.firm set.members.items }

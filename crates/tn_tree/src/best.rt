@@ -6,8 +6,8 @@ ghost use Rattle.tn_base.specs.Arcs.{IsAtMost};
 ghost use Rattle.tn_links.specs.Widths.{most_each};
 ghost use Rattle.tn_counts.specs.Counts.{IsBestCount, count_utility};
 ghost use Rattle.tn_counts.specs.Laminar.{firm_of};
-ghost use Rattle.tn_counts.specs.Markets.{IsUnitMarket};
-ghost use Rattle.tn_counts.specs.Widths.{most_unit_trades};
+ghost use Rattle.tn_counts.specs.Markets.{IsWideMarket};
+ghost use Rattle.tn_counts.specs.Widths.{most_wide_trades};
 ghost use Rattle.tn_tree.specs.Lists.{own_counts, pin_of, price_in};
 
 use crate::around::trade_node;
@@ -29,7 +29,7 @@ pub struct BestCounts {
 
 /// A pin for each trade.
 fn pin_all(alloc: Global, prices: &[i64]) -> Result<Vec<Pin>, OutOfMemory>
-    requires few { length prices.now ≤ most_unit_trades }
+    requires few { length prices.now ≤ most_wide_trades }
     requires small { (t : ℕ) → t < length prices.now → IsAtMost (price_in prices.now t) most_each }
     ensures { IfOk result (λ pins. pins.items ≡ map (pin_of prices.now) (range_with_len 0 (length prices.now))) }
 {
@@ -51,7 +51,7 @@ pub fn best_counts(
     market: &UnitMarket,
     prices: &[i64],
 ) -> Result<BestCounts, OutOfMemory>
-    requires market { IsUnitMarket market.now }
+    requires market { IsWideMarket market.now }
     requires as_many { length prices.now ≡ length market.now.trades.items }
     requires small { (t : ℕ) → t < length prices.now → IsAtMost (price_in prices.now t) most_each }
     ensures sold { IfOk result (λ best. length best.sold.items ≡ length market.now.trades.items) }

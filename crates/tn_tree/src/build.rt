@@ -5,7 +5,7 @@ ghost use Rattle.std.specs.List.{range_with_len};
 ghost use Rattle.tn_base.specs.Arcs.{IsAtMost};
 ghost use Rattle.tn_links.specs.Widths.{most_each};
 ghost use Rattle.tn_counts.specs.declared.set.CountSet.{CountSet};
-ghost use Rattle.tn_counts.specs.Markets.{ArePins, IsUnitMarket};
+ghost use Rattle.tn_counts.specs.Markets.{ArePins, IsWideMarket};
 ghost use Rattle.tn_counts.specs.Tree.{AreLinksOf, buyer_shape, even, null_node, pin_shape, root_shape, seller_shape, set_shape, shape_of, unbounded_shape};
 ghost use Rattle.tn_tree.specs.Shapes.{set_shapes};
 
@@ -29,7 +29,7 @@ fn even(alloc: Global, units: u32, each: i64) -> Result<Vec<Step>, OutOfMemory>
 
 /// The link of a set.
 fn set_link(alloc: Global, market: &UnitMarket, i: u32) -> Result<Link, OutOfMemory>
-    requires market { IsUnitMarket market.now }
+    requires market { IsWideMarket market.now }
     requires inside { i < length market.now.sets.items }
     ensures { IfOk result (λ link. (set : CountSet) → slice_get market.now.sets.items i ≡ Some set
         → shape_of link ≡ set_shape market.now i set) }
@@ -59,7 +59,7 @@ fn unbounded(alloc: Global, tail: u32, head: u32, each: i64) -> Result<Link, Out
 
 /// The link of a root.
 fn root_link(alloc: Global, market: &UnitMarket, firm: u32) -> Result<Link, OutOfMemory>
-    requires market { IsUnitMarket market.now }
+    requires market { IsWideMarket market.now }
     requires known { firm < market.now.firms }
     ensures { IfOk result (λ link. shape_of link ≡ root_shape market.now firm) }
 {
@@ -69,7 +69,7 @@ fn root_link(alloc: Global, market: &UnitMarket, firm: u32) -> Result<Link, OutO
 
 /// The link of a trade at its seller.
 fn seller_link(alloc: Global, market: &UnitMarket, t: u32) -> Result<Link, OutOfMemory>
-    requires market { IsUnitMarket market.now }
+    requires market { IsWideMarket market.now }
     requires inside { t < length market.now.trades.items }
     ensures { IfOk result (λ link. shape_of link ≡ seller_shape market.now t) }
 {
@@ -85,7 +85,7 @@ fn seller_link(alloc: Global, market: &UnitMarket, t: u32) -> Result<Link, OutOf
 
 /// The link of a trade at its buyer.
 fn buyer_link(alloc: Global, market: &UnitMarket, t: u32) -> Result<Link, OutOfMemory>
-    requires market { IsUnitMarket market.now }
+    requires market { IsWideMarket market.now }
     requires inside { t < length market.now.trades.items }
     ensures { IfOk result (λ link. shape_of link ≡ buyer_shape market.now t) }
 {
@@ -101,7 +101,7 @@ fn buyer_link(alloc: Global, market: &UnitMarket, t: u32) -> Result<Link, OutOfM
 
 /// The link of a pinned trade.
 fn pin_link(alloc: Global, market: &UnitMarket, pin: Pin) -> Result<Link, OutOfMemory>
-    requires market { IsUnitMarket market.now }
+    requires market { IsWideMarket market.now }
     requires known { pin.trade < length market.now.trades.items }
     ensures { IfOk result (λ link. shape_of link ≡ pin_shape market.now pin) }
 {
@@ -111,7 +111,7 @@ fn pin_link(alloc: Global, market: &UnitMarket, pin: Pin) -> Result<Link, OutOfM
 
 /// Adds the links of all sets.
 fn add_sets(alloc: Global, market: &UnitMarket, links: &mut Vec<Link>) -> Result<(), OutOfMemory>
-    requires { IsUnitMarket market.now }
+    requires { IsWideMarket market.now }
     ensures { IfOk result (λ done. map shape_of links.new.items
         ≡ map shape_of links.old.items ++ set_shapes market.now 0 market.now.sets.items) }
 {
@@ -123,7 +123,7 @@ fn add_sets(alloc: Global, market: &UnitMarket, links: &mut Vec<Link>) -> Result
 
 /// Adds the links of all roots.
 fn add_roots(alloc: Global, market: &UnitMarket, links: &mut Vec<Link>) -> Result<(), OutOfMemory>
-    requires { IsUnitMarket market.now }
+    requires { IsWideMarket market.now }
     ensures { IfOk result (λ done. map shape_of links.new.items
         ≡ map shape_of links.old.items ++ map (root_shape market.now) (range_with_len 0 market.now.firms)) }
 {
@@ -135,7 +135,7 @@ fn add_roots(alloc: Global, market: &UnitMarket, links: &mut Vec<Link>) -> Resul
 
 /// Adds the links of all trades at their sellers.
 fn add_sellers(alloc: Global, market: &UnitMarket, links: &mut Vec<Link>) -> Result<(), OutOfMemory>
-    requires { IsUnitMarket market.now }
+    requires { IsWideMarket market.now }
     ensures { IfOk result (λ done. map shape_of links.new.items ≡ map shape_of links.old.items
         ++ map (seller_shape market.now) (range_with_len 0 (length market.now.trades.items))) }
 {
@@ -147,7 +147,7 @@ fn add_sellers(alloc: Global, market: &UnitMarket, links: &mut Vec<Link>) -> Res
 
 /// Adds the links of all trades at their buyers.
 fn add_buyers(alloc: Global, market: &UnitMarket, links: &mut Vec<Link>) -> Result<(), OutOfMemory>
-    requires { IsUnitMarket market.now }
+    requires { IsWideMarket market.now }
     ensures { IfOk result (λ done. map shape_of links.new.items ≡ map shape_of links.old.items
         ++ map (buyer_shape market.now) (range_with_len 0 (length market.now.trades.items))) }
 {
@@ -164,7 +164,7 @@ fn add_pins(
     pins: &[Pin],
     links: &mut Vec<Link>,
 ) -> Result<(), OutOfMemory>
-    requires market { IsUnitMarket market.now }
+    requires market { IsWideMarket market.now }
     requires pins { ArePins (length market.now.trades.items) pins.now }
     ensures { IfOk result (λ done. map shape_of links.new.items
         ≡ map shape_of links.old.items ++ map (pin_shape market.now) pins.now) }
@@ -177,7 +177,7 @@ fn add_pins(
 
 /// All links in their order.
 fn all_links(alloc: Global, market: &UnitMarket, pins: &[Pin]) -> Result<Vec<Link>, OutOfMemory>
-    requires market { IsUnitMarket market.now }
+    requires market { IsWideMarket market.now }
     requires pins { ArePins (length market.now.trades.items) pins.now }
     ensures { IfOk result (λ links. AreLinksOf market.now pins.now links.items) }
 {
@@ -196,7 +196,7 @@ pub(crate) fn links_of(
     market: &UnitMarket,
     pins: &[Pin],
 ) -> Result<Links, OutOfMemory>
-    requires market { IsUnitMarket market.now }
+    requires market { IsWideMarket market.now }
     requires pins { ArePins (length market.now.trades.items) pins.now }
     ensures links { IfOk result (λ made. AreLinksOf market.now pins.now made.links.items) }
     ensures nodes { IfOk result (λ made. made.nodes ≡ suc (null_node market.now)) }

@@ -6,12 +6,12 @@ ghost use Rattle.tn_base.specs.Arcs.{IsAtMost};
 ghost use Rattle.tn_links.specs.Widths.{most_each};
 ghost use Rattle.tn_counts.specs.Counts.{AreCounts, trade_at};
 ghost use Rattle.tn_counts.specs.Laminar.{amounts_at, firm_of};
-ghost use Rattle.tn_counts.specs.Markets.{IsUnitMarket};
+ghost use Rattle.tn_counts.specs.Markets.{IsUnitMarket, IsWideMarket};
 ghost use Rattle.tn_counts.specs.Tree.{null_node};
 ghost use Rattle.tn_counts.specs.declared.trade.UnitAmounts.{UnitAmounts};
-ghost use Rattle.tn_counts.specs.Widths.{most_unit_surplus, most_unit_trades};
+ghost use Rattle.tn_counts.specs.Widths.{most_unit_surplus, most_wide_trades};
 ghost use Rattle.tn_tree.specs.declared.held.FirmCount.{FirmCount};
-ghost use Rattle.tn_tree.specs.Held.{AreKept, AreSmallValues, AreValues, IsHeld, IsKept, firm_count, gain_at};
+ghost use Rattle.tn_tree.specs.Held.{AreKept, AreSmallValues, AreValues, IsHeld, IsHeldAt, IsKept, firm_count, gain_at};
 ghost use Rattle.tn_tree.specs.Lists.{count_in, own_counts, price_in, rate_of};
 ghost use Rattle.tn_tree.specs.Nets.{HaveTree, most_count_worth, most_paid};
 
@@ -46,7 +46,7 @@ pub struct HeldCounts {
 
 /// Prices as amounts: a unit adds its price to what its seller has, and takes it from its buyer.
 fn rates_of(alloc: Global, prices: &[i64]) -> Result<Vec<UnitAmounts>, OutOfMemory>
-    requires few { length prices.now ≤ most_unit_trades }
+    requires few { length prices.now ≤ most_wide_trades }
     requires small { (t : ℕ) → t < length prices.now → IsAtMost (price_in prices.now t) most_each }
     ensures { IfOk result (λ rates. rates.items ≡ map (rate_of prices.now) (range_with_len 0 (length prices.now))) }
 {
@@ -206,7 +206,7 @@ fn keep_own(
     counts: &[u32],
     best: &BestCounts,
 ) -> Result<BestCounts, OutOfMemory>
-    requires market { IsUnitMarket market.now }
+    requires market { IsWideMarket market.now }
     requires firms { length firms.now ≡ market.now.firms }
     requires counts { length counts.now ≡ length market.now.trades.items }
     requires sold { length best.now.sold.items ≡ length market.now.trades.items }
@@ -239,7 +239,7 @@ fn values_of(
     sold: &[u32],
     bought: &[u32],
 ) -> Result<Values, OutOfMemory>
-    requires market { IsUnitMarket market.now }
+    requires market { IsWideMarket market.now }
     requires tree { HaveTree market.now links.now.links.items }
     requires nodes { links.now.nodes ≡ suc (null_node market.now) }
     requires as_many { length rates.now ≡ length market.now.trades.items }
@@ -263,8 +263,40 @@ fn values_of(
     Ok(Values { worths, utilities })
 }
 
+/// What each firm has by counts of the trades' units at given prices, and the best counts that it could have, of a market
+/// with as many trades again as others, and with any numbers that links take. The counts are within the units of each
+/// trade, and prices are at most 2 * 10^11 in size. It fails only where memory runs out.
+pub fn hold_wide(
+    alloc: Global,
+    market: &UnitMarket,
+    counts: &[u32],
+    prices: &[i64],
+) -> Result<HeldCounts, OutOfMemory>
+    requires market { IsWideMarket market.now }
+    requires counted { length counts.now ≡ length market.now.trades.items }
+    requires within { AreCounts market.now.trades.items (count_in counts.now) }
+    requires priced { length prices.now ≡ length market.now.trades.items }
+    requires small { (t : ℕ) → t < length prices.now → IsAtMost (price_in prices.now t) most_each }
+    ensures firms { IfOk result (λ held. length held.firms.items ≡ market.now.firms) }
+    ensures sold { IfOk result (λ held. length held.best.sold.items ≡ length market.now.trades.items) }
+    ensures bought { IfOk result (λ held. length held.best.bought.items ≡ length market.now.trades.items) }
+    ensures held { IfOk result (λ held. (f : ℕ) (said : FirmCount) → slice_get held.firms.items f ≡ Some said
+        → IsHeldAt market.now.trades.items f (firm_of market.now f) counts.now prices.now held.best.sold.items
+        held.best.bought.items said) }
+{
+    let links = links_of(alloc, market, &[])?;
+    let rates = rates_of(alloc, prices)?;
+    let own = values_of(alloc, market, &links, &rates, counts, counts)?;
+    let best = best_counts(alloc, market, prices)?;
+    let most = values_of(alloc, market, &links, &rates, &best.sold, &best.bought)?;
+    let firms = firm_counts(alloc, &own.worths, &own.utilities, &most.utilities)?;
+    let best = keep_own(alloc, market, &firms, counts, &best)?;
+    Ok(HeldCounts { firms, best })
+}
+
 /// What each firm has by counts of the trades' units at given prices, and the best counts that it could have. The counts
 /// are within the units of each trade, and prices are at most 2 * 10^11 in size. It fails only where memory runs out.
+#[tactic(auto, using(tn_counts::proofs::WideLemmas::wide_market))]
 pub fn hold_counts(
     alloc: Global,
     market: &UnitMarket,
@@ -283,12 +315,5 @@ pub fn hold_counts(
         → IsHeld market.now.trades.items f (firm_of market.now f) counts.now prices.now held.best.sold.items
         held.best.bought.items said) }
 {
-    let links = links_of(alloc, market, &[])?;
-    let rates = rates_of(alloc, prices)?;
-    let own = values_of(alloc, market, &links, &rates, counts, counts)?;
-    let best = best_counts(alloc, market, prices)?;
-    let most = values_of(alloc, market, &links, &rates, &best.sold, &best.bought)?;
-    let firms = firm_counts(alloc, &own.worths, &own.utilities, &most.utilities)?;
-    let best = keep_own(alloc, market, &firms, counts, &best)?;
-    Ok(HeldCounts { firms, best })
+    hold_wide(alloc, market, counts, prices)
 }

@@ -7,6 +7,7 @@ mod build;
 mod flow;
 mod held;
 mod nets;
+mod pinned;
 mod range;
 mod settled;
 mod solve;
@@ -16,7 +17,8 @@ mod surplus;
 mod worths;
 
 pub use best::{BestCounts, best_counts};
-pub use held::{FirmCount, HeldCounts, hold_counts};
+pub use held::{FirmCount, HeldCounts, hold_counts, hold_wide};
+pub use pinned::{PinnedSupport, support_beside};
 pub use range::{UnitRange, UnitRanges, range_market};
 pub use solve::{Solved, solve_market};
 pub use steps::UnitStep;

@@ -4,7 +4,7 @@ ghost use Rattle.std.specs.Prelude.{◌≡◌, ℕ, suc, ◌<◌, ◌≤◌, ℤ
 ghost use Rattle.tn_base.specs.Arcs.{IsAtMost};
 ghost use Rattle.tn_links.specs.Totals.{total};
 ghost use Rattle.tn_counts.specs.Counts.{AreCounts, trade_at};
-ghost use Rattle.tn_counts.specs.Markets.{IsUnitMarket};
+ghost use Rattle.tn_counts.specs.Markets.{IsWideMarket};
 ghost use Rattle.tn_counts.specs.Tree.{inner_node, null_node, root_node};
 ghost use Rattle.tn_counts.proofs.ClimbLemmas.{above};
 ghost use Rattle.tn_tree.specs.Lists.{count_in};
@@ -71,7 +71,7 @@ fn bring_up(numbers: &mut Vec<i128>, from: u32, to: u32)
 
 /// The node at which a trade stands at its seller, by its link.
 fn seller_end(market: &UnitMarket, links: &Links, t: u32) -> u32
-    requires market { IsUnitMarket market.now }
+    requires market { IsWideMarket market.now }
     requires tree { HaveTree market.now links.now.links.items }
     requires known { t < length market.now.trades.items }
     ensures node { result ≡ inner_node market.now (trade_at market.now.trades.items t).seller t }
@@ -82,7 +82,7 @@ fn seller_end(market: &UnitMarket, links: &Links, t: u32) -> u32
 
 /// The node at which a trade stands at its buyer, by its link.
 fn buyer_end(market: &UnitMarket, links: &Links, t: u32) -> u32
-    requires market { IsUnitMarket market.now }
+    requires market { IsWideMarket market.now }
     requires tree { HaveTree market.now links.now.links.items }
     requires known { t < length market.now.trades.items }
     ensures node { result ≡ inner_node market.now (trade_at market.now.trades.items t).buyer t }
@@ -111,7 +111,7 @@ fn ends_in(
     sold: &[u32],
     bought: &[u32],
 ) -> Result<Vec<i128>, OutOfMemory>
-    requires market { IsUnitMarket market.now }
+    requires market { IsWideMarket market.now }
     requires tree { HaveTree market.now links.now.links.items }
     requires nodes { links.now.nodes ≡ suc (null_node market.now) }
     requires sold_all { length sold.now ≡ length market.now.trades.items }
@@ -140,7 +140,7 @@ pub(crate) fn nets_of(
     sold: &[u32],
     bought: &[u32],
 ) -> Result<Vec<i128>, OutOfMemory>
-    requires market { IsUnitMarket market.now }
+    requires market { IsWideMarket market.now }
     requires tree { HaveTree market.now links.now.links.items }
     requires nodes { links.now.nodes ≡ suc (null_node market.now) }
     requires sold_all { length sold.now ≡ length market.now.trades.items }

@@ -2,7 +2,7 @@
 
 ghost use Rattle.std.specs.Prelude.{◌≡◌, [], ℕ, ◌+◌, ◌^◌, ◌<◌, ◌≤◌, All, IfOk, IfSome, length, neg_ℤ, option_map, suc};
 ghost use Rattle.tn_base.specs.Arcs.{IsAtMost};
-ghost use Rattle.tn_counts.specs.Markets.{IsUnitMarket};
+ghost use Rattle.tn_counts.specs.Markets.{IsUnitMarket, IsWideMarket};
 ghost use Rattle.tn_counts.specs.Tree.{AreLinksOf, null_node, trade_node};
 ghost use Rattle.tn_counts.specs.Widths.{most_unit_price};
 ghost use Rattle.tn_cycle.specs.Answers.{distance_in, walk_in};
@@ -60,7 +60,7 @@ fn high_path(
     from_null: &mut Finder,
     node: u32,
 ) -> Result<Vec<Option<UnitStep>>, OutOfMemory>
-    requires market { IsUnitMarket market.now }
+    requires market { IsWideMarket market.now }
     requires links { AreLinksOf market.now [] links.now.links.items }
     requires found { node < length from_null.old.distances }
     requires walk { IfSome (distance_in from_null.old node) (λ c. IsWalk market.now (walk_in from_null.old node)) }
@@ -83,7 +83,7 @@ fn low_path(
     to_null: &mut Finder,
     node: u32,
 ) -> Result<Vec<Option<UnitStep>>, OutOfMemory>
-    requires market { IsUnitMarket market.now }
+    requires market { IsWideMarket market.now }
     requires links { AreLinksOf market.now [] links.now.links.items }
     requires found { node < length to_null.old.distances }
     requires walk { IfSome (distance_in to_null.old node) (λ c. IsWalk market.now (walk_in to_null.old node)) }
@@ -107,7 +107,7 @@ fn range_of(
     to_null: &mut Finder,
     node: u32,
 ) -> Result<UnitRange, OutOfMemory>
-    requires market { IsUnitMarket market.now }
+    requires market { IsWideMarket market.now }
     requires links { AreLinksOf market.now [] links.now.links.items }
     requires from_found { node < length from_null.old.distances }
     requires to_found { node < length to_null.old.distances }
@@ -134,7 +134,7 @@ fn ranges_from(
     trades: u32,
     place: u32,
 ) -> Result<Vec<UnitRange>, OutOfMemory>
-    requires market { IsUnitMarket market.now }
+    requires market { IsWideMarket market.now }
     requires links { AreLinksOf market.now [] links.now.links.items }
     requires few { place + trades ≤ 2 ^ 24 }
     requires from_found { place + trades < length from_null.distances }
@@ -161,6 +161,7 @@ fn ranges_from(
 /// one the negative of the least cost of a walk from there to null. It fails only where memory runs out (the lattice of
 /// prices: Gul and Stacchetti, 1999, and Hatfield, Kominers, Nichifor, Ostrovsky and Westkamp, 2013; by least walks,
 /// Murota, 2003).
+#[tactic(auto, using(tn_counts::proofs::WideLemmas::wide_market))]
 pub fn range_market(alloc: Global, market: &UnitMarket) -> Result<UnitRanges, OutOfMemory>
     requires { IsUnitMarket market.now }
     ensures ranges { IfOk result (λ found. AreRangesByCounts market.now found.counts.items found.ranges.items) }

@@ -6,7 +6,7 @@ ghost use Rattle.tn_base.specs.Arcs.{IsAtMost};
 ghost use Rattle.tn_counts.specs.declared.set.CountSet.{CountSet};
 ghost use Rattle.tn_counts.specs.Counts.{IsEquilibriumByCounts, count_surplus};
 ghost use Rattle.tn_counts.specs.Laminar.{constants, firms_of};
-ghost use Rattle.tn_counts.specs.Markets.{IsUnitMarket};
+ghost use Rattle.tn_counts.specs.Markets.{IsUnitMarket, IsWideMarket};
 ghost use Rattle.tn_counts.specs.Tree.{null_node, price_by};
 ghost use Rattle.tn_counts.specs.Widths.{most_count_sets, most_unit_amount, most_unit_price, most_unit_surplus};
 ghost use Rattle.tn_cycle.specs.Answers.{label_in};
@@ -57,7 +57,7 @@ pub(crate) fn prices_by(
     market: &UnitMarket,
     finder: &Finder,
 ) -> Result<Vec<i128>, OutOfMemory>
-    requires market { IsUnitMarket market.now }
+    requires market { IsWideMarket market.now }
     requires labelled { length finder.now.labels ≡ suc (null_node market.now) }
     requires small { (v : ℕ) → v < length finder.now.labels → IsAtMost (label_in finder.now.labels v) most_read }
     ensures { IfOk result (λ prices. prices.items
@@ -88,6 +88,7 @@ pub(crate) fn constants(sets: &[CountSet]) -> i128
 
 /// Finds counts and prices that are an equilibrium by counts, and the surplus of the counts, which is the greatest. It
 /// fails only where memory runs out.
+#[tactic(auto, using(tn_counts::proofs::WideLemmas::wide_market))]
 pub fn solve_market(alloc: Global, market: &UnitMarket) -> Result<Solved, OutOfMemory>
     requires { IsUnitMarket market.now }
     ensures equilibrium { IfOk result (λ solved. IsEquilibriumByCounts (firms_of market.now) market.now.trades.items

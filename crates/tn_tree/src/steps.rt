@@ -1,7 +1,7 @@
 //! Walks over the links of a market as steps.
 
 ghost use Rattle.std.specs.Prelude.{◌≡◌, ℕ, ◌-◌, ◌<◌, ◌≤◌, ◌++◌, [], All, IfOk, get_or, length, suc, true};
-ghost use Rattle.tn_counts.specs.Markets.{IsUnitMarket};
+ghost use Rattle.tn_counts.specs.Markets.{IsWideMarket};
 ghost use Rattle.tn_counts.specs.Tree.{AreLinksOf, null_node, trade_node};
 ghost use Rattle.tn_tree.specs.Steps.{entered, step_at, stepped_down};
 
@@ -29,7 +29,7 @@ fn add_step(
     other: u32,
     enters: bool,
 ) -> Result<(), OutOfMemory>
-    requires market { IsUnitMarket market.now }
+    requires market { IsWideMarket market.now }
     requires links { AreLinksOf market.now [] links.now.links.items }
     requires inside { node < suc (null_node market.now) }
     ensures { IfOk result (λ done. steps.new.items ≡ steps.old.items ++ step_at market.now enters node other) }
@@ -56,7 +56,7 @@ fn add_entered(
     from: u32,
     nodes: &[u32],
 ) -> Result<(), OutOfMemory>
-    requires market { IsUnitMarket market.now }
+    requires market { IsWideMarket market.now }
     requires links { AreLinksOf market.now [] links.now.links.items }
     requires inside { All (λ v. v < suc (null_node market.now)) nodes.now }
     ensures { IfOk result (λ done. steps.new.items ≡ steps.old.items ++ entered market.now from nodes.now) }
@@ -76,7 +76,7 @@ pub(crate) fn steps_round(
     links: &Links,
     nodes: &[u32],
 ) -> Result<Vec<Option<UnitStep>>, OutOfMemory>
-    requires market { IsUnitMarket market.now }
+    requires market { IsWideMarket market.now }
     requires links { AreLinksOf market.now [] links.now.links.items }
     requires some { 1 ≤ length nodes.now }
     requires inside { All (λ v. v < suc (null_node market.now)) nodes.now }
@@ -95,7 +95,7 @@ pub(crate) fn steps_down(
     links: &Links,
     nodes: &[u32],
 ) -> Result<Vec<Option<UnitStep>>, OutOfMemory>
-    requires market { IsUnitMarket market.now }
+    requires market { IsWideMarket market.now }
     requires links { AreLinksOf market.now [] links.now.links.items }
     requires two { 2 ≤ length nodes.now }
     requires inside { All (λ v. v < suc (null_node market.now)) nodes.now }

@@ -41,6 +41,7 @@ pub enum UnitSupport {
 }
 
 /// Prices for the counts of a kept flow, exactly where there are any; otherwise a negative cycle of steps.
+#[tactic(auto, using(tn_counts::proofs::WideLemmas::wide_market))]
 pub(crate) fn support_flow(
     alloc: Global,
     market: &UnitMarket,
@@ -88,6 +89,7 @@ fn first_none(numbers: &[Option<i128>]) -> Option<u32>
 }
 
 /// What there is for counts that are possible for each firm.
+#[tactic(auto, using(tn_counts::proofs::WideLemmas::wide_market))]
 fn support_possible(
     alloc: Global,
     market: &UnitMarket,
@@ -102,7 +104,7 @@ fn support_possible(
     requires possible { ArePossible market.now (λ f. count_in counts.now) }
     ensures { IfOk result (SupportsByCounts market.now (count_in counts.now)) }
 {
-    let levels = flow_of(alloc, market, links, counts)?;
+    let levels = flow_of(alloc, market, &[], links, counts)?;
     support_flow(alloc, market, links, &levels)
 }
 
@@ -110,6 +112,7 @@ fn support_possible(
 /// counts are impossible; or, where they are possible for all, a negative cycle of steps, each of one unit of a trade more
 /// or fewer, which lead to counts with more surplus (cycle cancelling: Klein, 1967). There are no more units of a trade
 /// than it has. It fails only where memory runs out.
+#[tactic(auto, using(tn_counts::proofs::WideLemmas::wide_market))]
 pub fn support_counts(
     alloc: Global,
     market: &UnitMarket,

@@ -41,6 +41,7 @@ fn are_there(worths: &[Option<i128>]) -> bool
 
 /// The sum of the firms' worths of counts, None where the counts are impossible for one of them. It fails only where
 /// memory runs out.
+#[tactic(auto, using(tn_counts::proofs::WideLemmas::wide_market))]
 pub fn surplus_of(
     alloc: Global,
     market: &UnitMarket,
@@ -57,6 +58,6 @@ pub fn surplus_of(
     if !are_there(&worths) {
         return Ok(None);
     }
-    let levels = flow_of(alloc, market, &links, counts)?;
+    let levels = flow_of(alloc, market, &[], &links, counts)?;
     Ok(Some(links.gain(&levels) + constants(&market.sets)))
 }

@@ -7,9 +7,9 @@ ghost use Rattle.tn_base.specs.Options.{both};
 ghost use Rattle.tn_links.specs.Widths.{most_each, most_rise};
 ghost use Rattle.tn_counts.specs.Counts.{AreCounts};
 ghost use Rattle.tn_counts.specs.Laminar.{added_at, amount_sum, firm_of};
-ghost use Rattle.tn_counts.specs.Markets.{IsCountSet, IsUnitMarket};
+ghost use Rattle.tn_counts.specs.Markets.{IsSetWithin, IsWideMarket};
 ghost use Rattle.tn_counts.specs.Tree.{null_node};
-ghost use Rattle.tn_counts.specs.Widths.{most_market_units, most_set_units, most_unit_amount};
+ghost use Rattle.tn_counts.specs.Widths.{most_market_units, most_set_units};
 ghost use Rattle.tn_counts.specs.declared.trade.UnitAmounts.{UnitAmounts};
 ghost use Rattle.tn_tree.specs.Lists.{count_in, own_counts};
 ghost use Rattle.tn_tree.specs.Nets.{HaveTree, most_count_worth, most_set_number, most_sum};
@@ -47,7 +47,7 @@ pub(crate) fn amount_sums(
     sold: &[u32],
     bought: &[u32],
 ) -> Result<Vec<i128>, OutOfMemory>
-    requires market { IsUnitMarket market.now }
+    requires market { IsWideMarket market.now }
     requires as_many { length amounts.now ≡ length market.now.trades.items }
     requires small { (t : ℕ) (each : UnitAmounts) → slice_get amounts.now t ≡ Some each
         → IsAtMost each.seller most_each × IsAtMost each.buyer most_each }
@@ -86,7 +86,7 @@ fn level_from(net: i128, back: u32) -> Option<u32>
 
 /// A constant, and what a gain has risen by.
 fn risen(constant: i64, after: i128, before: i128) -> i128
-    requires constant { IsAtMost constant most_unit_amount }
+    requires constant { IsAtMost constant most_each }
     requires after { IsAtMost after most_rise }
     requires before { IsAtMost before most_rise }
     ensures { result ≡ constant +ℤ (after -ℤ before) }
@@ -96,7 +96,7 @@ fn risen(constant: i64, after: i128, before: i128) -> i128
 
 /// What a set adds at a net count, None where that lies beyond its steps.
 fn number_at(set: &CountSet, net: i128) -> Option<i128>
-    requires set { (firms : ℕ) × IsCountSet firms set.now }
+    requires set { (firms : ℕ) × IsSetWithin most_each firms set.now }
     requires small { IsAtMost net most_market_units }
     ensures number { result ≡ added_at set.now (net +ℤ pos set.now.back) }
     ensures small { (value : ℤ) → result ≡ Some value → IsAtMost value most_set_number }
@@ -160,7 +160,7 @@ pub(crate) fn worths_by(
     sold: &[u32],
     bought: &[u32],
 ) -> Result<Vec<Option<i128>>, OutOfMemory>
-    requires market { IsUnitMarket market.now }
+    requires market { IsWideMarket market.now }
     requires tree { HaveTree market.now links.now.links.items }
     requires nodes { links.now.nodes ≡ suc (null_node market.now) }
     requires sold_all { length sold.now ≡ length market.now.trades.items }

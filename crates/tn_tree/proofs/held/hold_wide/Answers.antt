@@ -1,15 +1,15 @@
--- What shows the clauses of `hold_counts` of `src/held.rt`.
+-- What shows the clauses of `hold_wide` of `src/held.rt`.
 use Rattle.std.proofs.Common.{ℕ, ◌<◌, ◌∙◌, List, length, sym, ap, subst, arith, ℤ, get_or, Option, None}
 use Rattle.std.proofs.lemmas.Option.{slice_get_within}
 use Rattle.tn_counts.specs.Counts.{AreCounts}
 use Rattle.tn_counts.specs.Laminar.{firm_of}
 use Rattle.tn_counts.specs.declared.trade.UnitAmounts.{UnitAmounts}
 use Rattle.tn_tree.specs.declared.held.FirmCount.{FirmCount}
-use Rattle.tn_tree.specs.Held.{AreKept, AreValues, IsHeld, firm_count}
+use Rattle.tn_tree.specs.Held.{AreKept, AreValues, IsHeldAt, firm_count}
 use Rattle.tn_tree.specs.Lists.{count_in, rate_of}
 use Rattle.tn_tree.proofs.HeldLemmas.{best_within, gain_is, held_is, rates_paid, rates_slight, remade, said_is}
 use Rattle.tn_tree.proofs.SolveLemmas.{sized_by}
-use Rattle.tn_tree.proofs.held.hold_counts.Goals as goal
+use Rattle.tn_tree.proofs.held.hold_wide.Goals as goal
 
 pub values_of-requires-clause-as_many : goal.values_of-requires-clause-as_many
 values_of-requires-clause-as_many c =
@@ -99,9 +99,7 @@ returns-clause-held c = λ f said at.
     let held = held_is market c.args.counts.now c.args.prices.now rates sold bought c.in_ok-best-2.best.sold.items
     c.in_ok-best-2.best.bought.items worths utilities bests c.in_ok-most.most.worths.items firms f below c.requires.within
     within.0 within.1 (rates_paid market.trades.items c.args.prices.now rates c.in_ok-rates.ensures c.requires.priced)
-    values most (c.in_ok-best.ensures.best f below) kept (gain_is worths utilities bests firms (length worths) f made read)
-    (λ value is. c.in_ok-own.ensures.small_worths f value is) c.in_ok-own.ensures.small_utilities
-    c.in_ok-most.ensures.small_utilities in
-    subst (IsHeld market.trades.items f (firm_of market f) c.args.counts.now c.args.prices.now
+    values most (c.in_ok-best.ensures.best f below) kept (gain_is worths utilities bests firms (length worths) f made read) in
+    subst (IsHeldAt market.trades.items f (firm_of market f) c.args.counts.now c.args.prices.now
     c.in_ok-best-2.best.sold.items c.in_ok-best-2.best.bought.items)
     (said_is worths utilities bests firms (length worths) f made read said at) held

@@ -16,4 +16,4 @@ returns c =
     IfOk-weaker c.support_flow.result _ _ (λ support are. supports_same c.args.market.now
     (sold_at c.args.market.now c.deref.result.now) (count_in c.args.counts.now) support
     (λ t below. ap (λ (xs : List ℕ). sold_at c.args.market.now xs t) c.deref.ensures.value
-    ∙ c.in_ok-levels.ensures.counts t below) are) c.support_flow.ensures
+    ∙ c.in_ok-levels.ensures.counts.sold t below) are) c.support_flow.ensures

@@ -47,7 +47,7 @@ returns-clause-surplus c =
     omega (arith, ints, gain.gain, added.sum, gains, numbers) in
     simp to_z-of_z (ap Some whole ∙ sym (surplus_by_flow c.args.market.now c.in_ok-links.links.links.items
     c.in_ok-levels.levels.items c.args.counts.now c.requires.market c.in_ok-links.ensures.links c.in_ok-levels.ensures.kept
-    c.in_ok-levels.ensures.counts))
+    c.in_ok-levels.ensures.counts.sold))
 
 pub returns-clause-small : goal.returns-clause-small
 returns-clause-small c =

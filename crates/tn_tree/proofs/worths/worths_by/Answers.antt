@@ -10,7 +10,7 @@ use Rattle.tn_base.specs.Arcs.{IsAtMost}
 use Rattle.tn_base.specs.Options.{both}
 use Rattle.tn_links.specs.Widths.{most_each}
 use Rattle.tn_counts.specs.Laminar.{amount_sum, set_sum}
-use Rattle.tn_counts.specs.Widths.{most_market_units, most_unit_amount}
+use Rattle.tn_counts.specs.Widths.{most_market_units}
 use Rattle.tn_counts.specs.declared.trade.UnitAmounts.{UnitAmounts}
 use Rattle.tn_tree.specs.Lists.{own_counts}
 use Rattle.tn_tree.specs.Nets.{net_at}
@@ -30,7 +30,7 @@ some_of-requires c = λ v.
     let sum = c.in_ok-amounts.ensures.sums v ∙ ap (λ (amounts : List UnitAmounts). amount_sum c.args.market.now.trades.items
     amounts v (own_counts c.args.market.now.trades.items c.args.sold.now c.args.bought.now v)) c.deref.ensures.value in
     let small = amounts_small c.args.market.now c.args.market.now.amounts.items c.args.sold.now c.args.bought.now v
-    most_unit_amount c.requires.market (small_amounts c.args.market.now c.requires.market) c.requires.sold
+    most_each c.requires.market (small_amounts c.args.market.now c.requires.market) c.requires.sold
     c.requires.bought in
     record {
       low = omega (arith, ints, same, sum, small.low);
@@ -60,7 +60,7 @@ loop-i-init c =
           c.args.market.now.trades.items amounts f
           (own_counts c.args.market.now.trades.items c.args.sold.now c.args.bought.now f)) c.deref.ensures.value in
           let small = amounts_small c.args.market.now c.args.market.now.amounts.items c.args.sold.now c.args.bought.now f
-          most_unit_amount c.requires.market (small_amounts c.args.market.now c.requires.market) c.requires.sold
+          most_each c.requires.market (small_amounts c.args.market.now c.requires.market) c.requires.sold
           c.requires.bought in
           record {
             low = omega (arith, ints, value, read, sum, small.low);
