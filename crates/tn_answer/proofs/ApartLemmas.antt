@@ -24,12 +24,13 @@ use Rattle.tn_said.specs.declared.units.TradeUnits.{TradeUnits}
 use Rattle.tn_said.specs.declared.units.UnitStep.{UnitStep}
 use Rattle.tn_said.specs.declared.units.UnitHolding.{UnitHolding}
 use Rattle.tn_said.specs.declared.units.UnitRange.{UnitRange}
+use Rattle.tn_model.specs.declared.contract.Contract.{Contract}
 use Rattle.tn_model.specs.declared.range.Range.{Range}
 use Rattle.tn_said.specs.declared.said.Page.{Page}
 use Rattle.tn_said.specs.declared.said.Page.TheVariants.{Help, Version as VersionPage, About}
 use Rattle.tn_said.specs.declared.said.Topic.TheVariants.{Check as CheckTopic, Firms as FirmsTopic, Test as TestTopic, Support as SupportTopic, Solve as SolveTopic, Range as RangeTopic, Session as SessionTopic, Judge as JudgeTopic, Replay as ReplayTopic, Drill as DrillTopic, Cases as CasesTopic}
 use Rattle.tn_said.specs.declared.said.Said.{Said}
-use Rattle.tn_said.specs.declared.said.Said.TheVariants.{Usage, ReadFault, NoMemory, Fault as FaultIs, Equilibrium, Better, BetterByCounts, Impossible, Accepted, ExchangeFails, Supported, SupportedByCounts, Cycle, CycleByCounts, Solved, SolvedByCounts, Drill, Ranges, RangesByCounts, Session, Drops, Completes, Blocks, Valid, Invalid, Cases, Page as PageIs, Firms as FirmsIs, FirmsByCounts}
+use Rattle.tn_said.specs.declared.said.Said.TheVariants.{Usage, ReadFault, NoMemory, Fault as FaultIs, Equilibrium, Better, BetterByCounts, Impossible, Accepted, ExchangeFails, Supported, SupportedByCounts, Cycle, CycleByCounts, Solved, SolvedByCounts, Drill, Ranges, RangesByCounts, Session, SessionByCounts, Drops, DropsByCounts, Completes, CompletesByCounts, Blocks, Valid, Invalid, Cases, Page as PageIs, Firms as FirmsIs, FirmsByCounts}
 use Rattle.tn_names.specs.Names.{NameLists, IsNameList}
 use Rattle.tn_said.specs.Words.{word_text}
 use Rattle.tn_names.specs.Named.{IsNamed, IsNamedStep, IsNamedTriple}
@@ -40,7 +41,7 @@ use Rattle.tn_answer.specs.ReasonText.{reason_members, IsNamedReason}
 use Rattle.tn_answer.specs.Apart.{HasShortNumbers, IsNamedAnswer, IsSameByCounts, IsSameFault, IsSameObject, IsSameStep}
 use Rattle.tn_answer.proofs.DataParts.{first_in, items_in, name_there, natural_in, nothing_goes, part, rest_in, same_bound, same_counts, same_integer, same_name, same_prices, shape, text_in}
 use Rattle.tn_answer.proofs.DataTexts.{clash}
-use Rattle.tn_answer.proofs.MembersApart.{bundle_alike, holdings_alike, ranges_alike, same_contracts, same_holdings, same_names, same_nodes, same_option, same_ranges, same_states, same_steps, same_unit_holdings, same_unit_ranges, same_entries, steps_alike}
+use Rattle.tn_answer.proofs.MembersApart.{bundle_alike, holdings_alike, ranges_alike, same_contracts, prices_alike, same_holdings, same_names, same_nodes, same_option, same_ranges, same_states, same_steps, same_unit_holdings, same_unit_ranges, same_unit_states, same_entries, states_alike, steps_alike}
 
 -- ---- words
 
@@ -208,8 +209,11 @@ answer_text (Drill size start firms surplus) = codes "drill"
 answer_text (Ranges on ranges ends) = codes "ranges"
 answer_text (RangesByCounts counts ranges ends) = codes "ranges"
 answer_text (Session edits) = codes "session"
+answer_text (SessionByCounts edits) = codes "session"
 answer_text (Drops firm keeps gain over) = codes "drops"
+answer_text (DropsByCounts firm keeps gain over) = codes "drops"
 answer_text (Completes prices over) = codes "completes"
+answer_text (CompletesByCounts prices over) = codes "completes"
 answer_text (Blocks contracts over) = codes "blocks"
 answer_text Valid = codes "valid"
 answer_text (Invalid reason) = codes "invalid"
@@ -249,8 +253,11 @@ answer_says names (Drill size start firms surplus) = refl
 answer_says names (Ranges on ranges ends) = refl
 answer_says names (RangesByCounts counts ranges ends) = refl
 answer_says names (Session edits) = refl
+answer_says names (SessionByCounts edits) = refl
 answer_says names (Drops firm keeps gain over) = refl
+answer_says names (DropsByCounts firm keeps gain over) = refl
 answer_says names (Completes prices over) = refl
+answer_says names (CompletesByCounts prices over) = refl
 answer_says names (Blocks contracts over) = refl
 answer_says names Valid = refl
 answer_says names (Invalid reason) = refl
@@ -444,6 +451,27 @@ module _ (names : NameLists) (firms : IsNameList names.firms) (trades : IsNameLi
     same_bound surplus surplus' (ap (part (codes "surplus")) e),
   )
 
+  drops_alike : (firm : ℕ) (keeps : List ℕ) (gain : Option ℤ) (over : ℤ) (other : ℕ) (keeps' : List TradeUnits)
+      (gain' : Option ℤ) (over' : ℤ)
+      → IsNamedAnswer names (Drops firm keeps gain over) → IsNamedAnswer names (DropsByCounts other keeps' gain' over')
+      → answer_data names (Drops firm keeps gain over) ≡ answer_data names (DropsByCounts other keeps' gain' over')
+      → IsSameByCounts (Drops firm keeps gain over) (DropsByCounts other keeps' gain' over')
+  drops_alike firm keeps gain over other keeps' gain' over' h k e = (
+    same_name names.firms firms firm other h.0 k.0 (ap (part (codes "firm")) e),
+    bundle_alike names.trades keeps keeps' h.1 k.1 (ap (part (codes "keeps")) e),
+    same_bound gain gain' (ap (part (codes "gain")) e),
+    same_integer over over' (ap (part (codes "over")) e),
+  )
+
+  completes_alike : (prices : List ℤ) (over : ℤ) (contracts : List Contract) (over' : ℤ)
+      → IsNamedAnswer names (Completes prices over) → IsNamedAnswer names (CompletesByCounts contracts over')
+      → answer_data names (Completes prices over) ≡ answer_data names (CompletesByCounts contracts over')
+      → IsSameByCounts (Completes prices over) (CompletesByCounts contracts over')
+  completes_alike prices over contracts over' h k e = (
+    prices_alike names.trades trades 0 prices contracts (omega (arith, h)) k (ap (part (codes "prices")) e),
+    same_integer over over' (ap (part (codes "over")) e),
+  )
+
   -- of pages the text is told, of others the data
   pub same_object : (first second : Said) → IsNamedAnswer names first → IsNamedAnswer names second → HasShortNumbers first
       → HasShortNumbers second
@@ -516,6 +544,18 @@ module _ (names : NameLists) (firms : IsNameList names.firms) (trades : IsNameLi
       (same_on, same_list)
   same_object (Session edits) (Session others) h k short short' line e =
       ap Session (same_states names.trades trades edits others h k (ap (part (codes "edits")) e))
+  same_object (SessionByCounts edits) (SessionByCounts others) h k short short' line e =
+      ap SessionByCounts (same_unit_states names.trades trades edits others h k (ap (part (codes "edits")) e))
+  same_object (DropsByCounts firm keeps gain over) (DropsByCounts other keeps' gain' over') h k short short' line e =
+      let same_firm = same_name names.firms firms firm other h.0 k.0 (ap (part (codes "firm")) e) in
+      let same_keeps = same_entries names.trades trades keeps keeps' h.1 k.1 (ap (part (codes "keeps")) e) in
+      let same_gain = same_bound gain gain' (ap (part (codes "gain")) e) in
+      let same_over = same_integer over over' (ap (part (codes "over")) e) in
+      λ i. DropsByCounts (same_firm i) (same_keeps i) (same_gain i) (same_over i)
+  same_object (CompletesByCounts prices over) (CompletesByCounts prices' over') h k short short' line e =
+      let same_list = same_contracts names.trades trades prices prices' h k (ap (part (codes "prices")) e) in
+      let same_over = same_integer over over' (ap (part (codes "over")) e) in
+      λ i. CompletesByCounts (same_list i) (same_over i)
   same_object (Drops firm keeps gain over) (Drops other keeps' gain' over') h k short short' line e =
       let same_firm = same_name names.firms firms firm other h.0 k.0 (ap (part (codes "firm")) e) in
       let same_keeps = same_names names.trades trades keeps keeps' h.1 k.1 (ap (part (codes "keeps")) e) in
@@ -566,5 +606,13 @@ module _ (names : NameLists) (firms : IsNameList names.firms) (trades : IsNameLi
       ranged_alike x r e y s d k h (sym same)
   same_object (FirmsIs m x s) (FirmsByCounts n y t) h k short short' line e = firms_alike m x s n y t h k e
   same_object (FirmsByCounts n y t) (FirmsIs m x s) h k short short' line e = firms_alike m x s n y t k h (sym e)
+  same_object (Session x) (SessionByCounts y) h k short short' line e =
+      states_alike names.trades trades x y h k (ap (part (codes "edits")) e)
+  same_object (SessionByCounts y) (Session x) h k short short' line e =
+      states_alike names.trades trades x y k h (ap (part (codes "edits")) (sym e))
+  same_object (Drops f x u d) (DropsByCounts g y v o) h k short short' line e = drops_alike f x u d g y v o h k e
+  same_object (DropsByCounts g y v o) (Drops f x u d) h k short short' line e = drops_alike f x u d g y v o k h (sym e)
+  same_object (Completes x d) (CompletesByCounts y o) h k short short' line e = completes_alike x d y o h k e
+  same_object (CompletesByCounts y o) (Completes x d) h k short short' line e = completes_alike x d y o k h (sym e)
   same_object first second h k short short' line e =
       absurd (differs first second refl e)

@@ -14,13 +14,14 @@ use Rattle.tn_model.specs.declared.contract.Contract.{Contract}
 use Rattle.tn_said.specs.declared.holding.Holding.{Holding}
 use Rattle.tn_model.specs.declared.range.Range.{Range}
 use Rattle.tn_said.specs.declared.session.State.{State}
+use Rattle.tn_said.specs.declared.session.UnitState.{UnitState}
 use Rattle.tn_said.specs.declared.units.TradeUnits.{TradeUnits}
 use Rattle.tn_said.specs.declared.units.UnitStep.{UnitStep}
 use Rattle.tn_said.specs.declared.units.UnitHolding.{UnitHolding}
 use Rattle.tn_said.specs.declared.units.UnitRange.{UnitRange}
 use Rattle.tn_said.specs.declared.said.Said.{Said}
-use Rattle.tn_said.specs.declared.said.Said.TheVariants.{Usage, ReadFault, NoMemory, Fault as FaultIs, Equilibrium, Better, BetterByCounts, Impossible, Accepted, ExchangeFails, Supported, SupportedByCounts, Cycle, CycleByCounts, Solved, SolvedByCounts, Drill, Ranges, RangesByCounts, Session, Drops, Completes, Blocks, Valid, Invalid, Cases, Page as PageIs, Firms, FirmsByCounts}
-use Rattle.tn_answer.specs.AnswerText.{bounds_data, bundle_data, contract_data, contracts_data, counts_from, direction, entry_data, fault_data, held_data, holding_data, nodes_data, place_data, price_data, prices_from, range_data, state_data, states_data, step_data, steps_data, unit_holding_data, unit_range_data, unit_step_data, answer, answer_data}
+use Rattle.tn_said.specs.declared.said.Said.TheVariants.{Usage, ReadFault, NoMemory, Fault as FaultIs, Equilibrium, Better, BetterByCounts, Impossible, Accepted, ExchangeFails, Supported, SupportedByCounts, Cycle, CycleByCounts, Solved, SolvedByCounts, Drill, Ranges, RangesByCounts, Session, SessionByCounts, Drops, DropsByCounts, Completes, CompletesByCounts, Blocks, Valid, Invalid, Cases, Page as PageIs, Firms, FirmsByCounts}
+use Rattle.tn_answer.specs.AnswerText.{bounds_data, bundle_data, contract_data, contracts_data, counts_from, direction, entry_data, fault_data, held_data, holding_data, nodes_data, place_data, price_data, prices_from, range_data, state_data, states_data, step_data, steps_data, unit_holding_data, unit_range_data, unit_state_data, unit_states_data, unit_step_data, answer, answer_data}
 use Rattle.tn_answer.specs.ReasonText.{reason_members}
 use Rattle.tn_answer.specs.Values.{names_data, option_data, bound_data, numbers_data}
 use Rattle.tn_answer.specs.Rows.{each_from}
@@ -116,6 +117,11 @@ module _ (names : List (List ℕ)) where
       neither _ _ (names_have_no_float state.on)
       (neither _ _ (contracts_have_no_float state.prices) (neither _ _ (integer_is_no_float state.surplus) refl)))
 
+  unit_states_have_no_float : (states : List UnitState) → has_float (unit_states_data names states) ≡ false
+  unit_states_have_no_float = items_have_no_float (unit_state_data names) (λ state.
+      neither _ _ (bundle_has_no_float state.on)
+      (neither _ _ (contracts_have_no_float state.prices) (neither _ _ (integer_is_no_float state.surplus) refl)))
+
   step_has_no_float : (step : PlaceStep) → has_float (step_data names step) ≡ false
   step_has_no_float (Key word) = refl
   step_has_no_float (Index k) = refl
@@ -199,6 +205,12 @@ answer_has_no_float names (RangesByCounts counts ranges ends) =
     neither _ _ (counts_have_no_float names.trades 0 counts)
     (neither _ _ (unit_ranges_have_no_float names.trades 0 ranges) refl)
 answer_has_no_float names (Session edits) = neither _ _ (states_have_no_float names.trades edits) refl
+answer_has_no_float names (SessionByCounts edits) = neither _ _ (unit_states_have_no_float names.trades edits) refl
+answer_has_no_float names (DropsByCounts firm keeps gain over) =
+    neither _ _ (bound_has_no_float gain) (neither _ _ (bundle_has_no_float names.trades keeps)
+    (neither _ _ (integer_is_no_float over) refl))
+answer_has_no_float names (CompletesByCounts prices over) =
+    neither _ _ (integer_is_no_float over) (neither _ _ (contracts_have_no_float names.trades prices) refl)
 answer_has_no_float names (Drops firm keeps gain over) =
     neither _ _ (bound_has_no_float gain) (neither _ _ (names_have_no_float names.trades keeps)
     (neither _ _ (integer_is_no_float over) refl))

@@ -15,22 +15,23 @@ use Rattle.tn_model.specs.declared.contract.Contract.{Contract}
 use Rattle.tn_said.specs.declared.holding.Holding.{Holding}
 use Rattle.tn_model.specs.declared.range.Range.{Range}
 use Rattle.tn_said.specs.declared.session.State.{State}
+use Rattle.tn_said.specs.declared.session.UnitState.{UnitState}
 use Rattle.tn_said.specs.declared.units.TradeUnits.{TradeUnits}
 use Rattle.tn_said.specs.declared.units.UnitStep.{UnitStep}
 use Rattle.tn_said.specs.declared.units.UnitHolding.{UnitHolding}
 use Rattle.tn_said.specs.declared.units.UnitRange.{UnitRange}
 use Rattle.tn_said.specs.declared.said.Said.{Said}
-use Rattle.tn_said.specs.declared.said.Said.TheVariants.{Usage, ReadFault, NoMemory, Fault as FaultIs, Equilibrium, Better, BetterByCounts, Impossible, Accepted, ExchangeFails, Supported, SupportedByCounts, Cycle, CycleByCounts, Solved, SolvedByCounts, Drill, Ranges, RangesByCounts, Session, Drops, Completes, Blocks, Valid, Invalid, Cases, Page as PageIs, Firms, FirmsByCounts}
+use Rattle.tn_said.specs.declared.said.Said.TheVariants.{Usage, ReadFault, NoMemory, Fault as FaultIs, Equilibrium, Better, BetterByCounts, Impossible, Accepted, ExchangeFails, Supported, SupportedByCounts, Cycle, CycleByCounts, Solved, SolvedByCounts, Drill, Ranges, RangesByCounts, Session, SessionByCounts, Drops, DropsByCounts, Completes, CompletesByCounts, Blocks, Valid, Invalid, Cases, Page as PageIs, Firms, FirmsByCounts}
 use Rattle.tn_names.specs.Names.{NameLists}
-use Rattle.tn_answer.specs.AnswerText.{contracts_data, counts_data, counts_from, state_data, prices_data, nodes_data, step_data, steps_data, unit_step_data, answer, fault_members, fault_data, json, answer_form, form_text, answer_table, text_of, answer_line}
+use Rattle.tn_answer.specs.AnswerText.{bundle_data, contracts_data, counts_data, counts_from, state_data, prices_data, nodes_data, step_data, steps_data, unit_state_data, unit_step_data, answer, fault_members, fault_data, json, answer_form, form_text, answer_table, text_of, answer_line}
 use Rattle.tn_answer.specs.declared.layout.Layout.{Layout}
 use Rattle.tn_answer.specs.declared.layout.Layout.TheVariants.{Object, Rows, WideRows}
 use Rattle.tn_answer.specs.Values.{names_data, option_data, integer_data}
 use Rattle.tn_answer.specs.ReasonText.{reason_members, reason_names_nothing, IsReasonWithin, IsShortReason}
-use Rattle.tn_answer.specs.Sayable.{HasShortBounds, HasShortUnitBounds, IsSayable, IsShortEntry, IsShortHolding, IsShortState, IsShortUnitHolding}
-use Rattle.tn_answer.specs.Kept.{HasWithinBounds, HasWithinUnitBounds, IsWithinEntry, IsWithinHolding, IsWithinState, IsWithinUnitHolding, IsWithinClaim, IsWithinPrices, IsWithinClaims}
+use Rattle.tn_answer.specs.Sayable.{HasShortBounds, HasShortUnitBounds, IsSayable, IsShortEntry, IsShortHolding, IsShortState, IsShortUnitHolding, IsShortUnitState}
+use Rattle.tn_answer.specs.Kept.{HasWithinBounds, HasWithinUnitBounds, IsWithinEntry, IsWithinHolding, IsWithinState, IsWithinUnitHolding, IsWithinUnitState, IsWithinClaim, IsWithinPrices, IsWithinClaims}
 use Rattle.tn_answer.proofs.CountLemmas.{is_some}
-use Rattle.tn_answer.specs.Laws.{are_none, has_no_units, is_empty, state_names_nothing, names_no_trade_at, names_no_trade_in, names_nothing}
+use Rattle.tn_answer.specs.Laws.{are_none, has_no_units, is_empty, state_names_nothing, unit_state_names_nothing, names_no_trade_at, names_no_trade_in, names_nothing}
 
 both : (a b : Bool) → (a && b) ≡ true → (a ≡ true) × (b ≡ true)
 both true b e = (refl, e)
@@ -100,6 +101,28 @@ same_states trades others [] e = refl
 same_states trades others (state ∷ states) e =
     let parts = both (state_names_nothing state) (list_all state_names_nothing states) e in
     λ j. same_state trades others state parts.0 j ∷ same_states trades others states parts.1 j
+
+same_bundle : (trades others : List (List ℕ)) (bundle : List TradeUnits) → is_empty bundle ≡ true
+    → bundle_data trades bundle ≡ bundle_data others bundle
+same_bundle trades others [] e = refl
+same_bundle trades others (entry ∷ bundle) e = absurd (true≢false (sym e))
+
+same_unit_state : (trades others : List (List ℕ)) (state : UnitState) → unit_state_names_nothing state ≡ true
+    → unit_state_data trades state ≡ unit_state_data others state
+same_unit_state trades others state e =
+    let parts = both (is_empty state.on) (is_empty state.prices) e in
+    λ j. object
+    (member (codes "on") (same_bundle trades others state.on parts.0 j)
+    (member (codes "prices") (same_contracts trades others state.prices parts.1 j)
+    (member (codes "surplus") (integer_data state.surplus) no_members)))
+
+same_unit_states : (trades others : List (List ℕ)) (states : List UnitState)
+    → list_all unit_state_names_nothing states ≡ true
+    → map (unit_state_data trades) states ≡ map (unit_state_data others) states
+same_unit_states trades others [] e = refl
+same_unit_states trades others (state ∷ states) e =
+    let parts = both (unit_state_names_nothing state) (list_all unit_state_names_nothing states) e in
+    λ j. same_unit_state trades others state parts.0 j ∷ same_unit_states trades others states parts.1 j
 
 same_step : (trades others : List (List ℕ)) (step : PlaceStep) → names_no_trade_at step ≡ true
     → step_data trades step ≡ step_data others step
@@ -196,7 +219,15 @@ same_form (RangesByCounts counts (range ∷ ranges) ends) names others e =
 same_form (Session edits) names others e =
     ap (λ ds. json (answer (codes "session") (member (codes "edits") (array (items_of ds)) no_members)))
     (same_states names.trades others.trades edits e)
+same_form (SessionByCounts edits) names others e =
+    ap (λ ds. json (answer (codes "session") (member (codes "edits") (array (items_of ds)) no_members)))
+    (same_unit_states names.trades others.trades edits e)
 same_form (Drops firm keeps gain over) names others e = absurd (true≢false (sym e))
+same_form (DropsByCounts firm keeps gain over) names others e = absurd (true≢false (sym e))
+same_form (CompletesByCounts prices over) names others e =
+    ap (λ d. json
+    (answer (codes "completes") (member (codes "over") (integer_data over) (member (codes "prices") d no_members))))
+    (same_contracts names.trades others.trades prices e)
 same_form (Completes prices over) names others e =
     ap (λ d. json
     (answer (codes "completes") (member (codes "over") (integer_data over) (member (codes "prices") d no_members))))
@@ -327,6 +358,16 @@ entry_fits entry within = omega (arith, within)
 bundle_fits : (bundle : List TradeUnits) → All IsWithinEntry bundle → All IsShortEntry bundle
 bundle_fits bundle within = λ k d below. entry_fits (get_or bundle k d) (within k d below)
 
+unit_state_fits : (state : UnitState) → IsWithinUnitState state → IsShortUnitState state
+unit_state_fits state within = record {
+  on = bundle_fits state.on within.on;
+  prices = λ k d below. fits (get_or state.prices k d).price (within.prices k d below);
+  surplus = fits_from_within state.surplus within.surplus;
+}
+  where
+    fits : (z : ℤ) → IsWithinPrices z → FitsSigned w64 z
+    fits z small = omega (arith, ints, small.low, small.high)
+
 unit_range_fits : (range : UnitRange) → HasWithinUnitBounds range → HasShortUnitBounds range
 unit_range_fits range within =
     record { high = bound_fits range.high within.high; low = bound_fits range.low within.low }
@@ -388,6 +429,11 @@ within_sayable (RangesByCounts counts ranges ends) within = (
   (λ k d below. unit_range_fits (get_or ranges k d) (within.1 k d below)),
 )
 within_sayable (Session edits) within = λ k d below. state_fits (get_or edits k d) (within k d below)
+within_sayable (SessionByCounts edits) within = λ k d below. unit_state_fits (get_or edits k d) (within k d below)
+within_sayable (DropsByCounts firm keeps gain over) within =
+    (bundle_fits keeps within.0, gain_fits gain within.1, fits_from_within over within.2)
+within_sayable (CompletesByCounts prices over) within =
+    ((λ k d below. fits_from_within (get_or prices k d).price (within.0 k d below)), fits_from_within over within.1)
 within_sayable (Drops firm keeps gain over) within = (gain_fits gain within.0, fits_from_within over within.1)
 within_sayable (Completes prices over) within =
     ((λ k d below. fits_from_within (get_or prices k d) (within.0 k d below)), fits_from_within over within.1)

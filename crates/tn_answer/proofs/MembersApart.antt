@@ -1,12 +1,15 @@
 -- Members of answers over the same names: those whose data are equal are the same, or name no trade.
-use Rattle.std.proofs.Common.{◌≡◌, ℕ, ℤ, pos, negsuc, Bool, true, false, List, Option, None, Some, All, IfSome, codes, refl, ap}
+use Rattle.std.proofs.Common.{◌≡◌, ◌≤◌, ◌+◌, ℕ, suc, ℤ, pos, negsuc, Bool, true, false, List, [], ◌∷◌, length, Option, None, Some, All, IfSome, codes, refl, ap, arith}
+use Rattle.std.proofs.lemmas.List.Elements.{All-head, All-tail}
 use Rattle.std.specs.List.{AllZip}
 use Rattle.serde_json.specs.Data.{Data, array}
 use Rattle.serde_json.specs.View.{items_of}
+use Rattle.serde_json.specs.Events.{items_len}
 use Rattle.tn_model.specs.declared.contract.Contract.{Contract}
 use Rattle.tn_model.specs.declared.range.Range.{Range}
 use Rattle.tn_said.specs.declared.holding.Holding.{Holding}
 use Rattle.tn_said.specs.declared.session.State.{State}
+use Rattle.tn_said.specs.declared.session.UnitState.{UnitState}
 use Rattle.tn_said.specs.declared.units.TradeUnits.{TradeUnits}
 use Rattle.tn_said.specs.declared.units.UnitStep.{UnitStep}
 use Rattle.tn_said.specs.declared.units.UnitHolding.{UnitHolding}
@@ -14,11 +17,11 @@ use Rattle.tn_said.specs.declared.units.UnitRange.{UnitRange}
 use Rattle.tn_names.specs.Names.{NameLists, IsNameList}
 use Rattle.tn_names.specs.Named.{IsNamed}
 use Rattle.tn_answer.specs.Rows.{each_from}
-use Rattle.tn_answer.specs.AnswerText.{bounds_data, bundle_data, contract_data, contracts_data, direction, entry_data, held_data, holding_data, nodes_data, range_data, state_data, states_data, steps_data, unit_holding_data, unit_range_data, unit_step_data}
+use Rattle.tn_answer.specs.AnswerText.{bounds_data, bundle_data, contract_data, contracts_data, direction, entry_data, held_data, holding_data, nodes_data, prices_from, range_data, state_data, states_data, steps_data, unit_holding_data, unit_range_data, unit_state_data, unit_states_data, unit_step_data}
 use Rattle.tn_answer.specs.Values.{name_data, names_data, option_data}
-use Rattle.tn_answer.specs.Apart.{AreBothEmpty, AreBothNull, HasNamedPaths, HasNamedSteps, IsNamedEntry, IsNamedHolding, IsNamedState, IsNamedUnitHolding, IsNamedUnitStep, IsSameHolding, IsSameRange}
+use Rattle.tn_answer.specs.Apart.{AreBothEmpty, AreBothNull, HasNamedPaths, HasNamedSteps, IsNamedEntry, IsNamedHolding, IsNamedState, IsNamedUnitHolding, IsNamedUnitState, IsNamedUnitStep, IsSameHolding, IsSameRange, IsSameState, beside_trades}
 use Rattle.tn_answer.proofs.BundleLemmas.{nowhere_alike}
-use Rattle.tn_answer.proofs.DataParts.{first_in, natural_in, part, rest_in, same_bound, same_integer, same_name, shape}
+use Rattle.tn_answer.proofs.DataParts.{first_in, items_in, natural_in, part, rest_in, same_bound, same_integer, same_name, shape}
 use Rattle.tn_answer.proofs.DataTexts.{clash}
 use Rattle.tn_answer.proofs.ListsApart.{alike_each, alike_items, same_each, same_items}
 
@@ -154,6 +157,33 @@ module _ (names : List (List ℕ)) (kept : IsNameList names) where
       ≡ array (items_of (each_from (unit_range_data names) 0 ys)) → xs ≡ ys
   same_unit_ranges = same_each (unit_range_data names) (HasNamedSteps names) same_unit_range 0
 
+  same_unit_state : (x y : UnitState) → IsNamedUnitState names x → IsNamedUnitState names y
+      → unit_state_data names x ≡ unit_state_data names y → x ≡ y
+  same_unit_state x y h k e =
+      let on = same_entries x.on y.on h.on k.on (ap (part (codes "on")) e) in
+      let prices = same_contracts x.prices y.prices h.prices k.prices (ap (part (codes "prices")) e) in
+      let surplus = same_integer x.surplus y.surplus (ap (part (codes "surplus")) e) in
+      λ j. record { on = on j; prices = prices j; surplus = surplus j }
+
+  pub same_unit_states : (xs ys : List UnitState) → All (IsNamedUnitState names) xs → All (IsNamedUnitState names) ys
+      → unit_states_data names xs ≡ unit_states_data names ys → xs ≡ ys
+  same_unit_states = same_items (unit_state_data names) (IsNamedUnitState names) same_unit_state
+
+  -- prices of all trades beside prices of some
+  pub prices_alike : (t : ℕ) (prices : List ℤ) (contracts : List Contract) → t + length prices ≤ length names
+      → All (λ contract. IsNamed names contract.trade) contracts
+      → array (items_of (prices_from names t prices)) ≡ contracts_data names contracts
+      → beside_trades t prices ≡ contracts
+  prices_alike t [] [] all h e = refl
+  prices_alike t [] (contract ∷ contracts) all h e = absurd (omega (arith, ap (λ d. items_len (items_in d)) e))
+  prices_alike t (price ∷ prices) [] all h e = absurd (omega (arith, ap (λ d. items_len (items_in d)) e))
+  prices_alike t (price ∷ prices) (contract ∷ contracts) all h e =
+      let there = All-head (λ contract. IsNamed names contract.trade) contract contracts h in
+      let first = same_contract (record { trade = t; price = price }) contract (omega (arith, all)) there (ap first_in e) in
+      let rest = prices_alike (suc t) prices contracts (omega (arith, all))
+      (All-tail (λ contract. IsNamed names contract.trade) contract contracts h) (ap rest_in e) in
+      λ j. first j ∷ rest j
+
 -- ---- trades beside trades with units
 
 module _ (names : List (List ℕ)) where
@@ -194,6 +224,20 @@ module _ (names : List (List ℕ)) where
       → AllZip IsSameRange xs ys
   ranges_alike = alike_each (range_data names) (unit_range_data names) (HasNamedPaths names) (HasNamedSteps names)
       IsSameRange range_alike 0
+
+module _ (names : List (List ℕ)) (kept : IsNameList names) where
+  state_alike : (x : State) (y : UnitState) → IsNamedState names x → IsNamedUnitState names y
+      → state_data names x ≡ unit_state_data names y → IsSameState x y
+  state_alike x y h k e = record {
+    on = bundle_alike names x.on y.on h.on k.on (ap (part (codes "on")) e);
+    prices = same_contracts names kept x.prices y.prices h.prices k.prices (ap (part (codes "prices")) e);
+    surplus = same_integer x.surplus y.surplus (ap (part (codes "surplus")) e);
+  }
+
+  pub states_alike : (xs : List State) (ys : List UnitState) → All (IsNamedState names) xs
+      → All (IsNamedUnitState names) ys → states_data names xs ≡ unit_states_data names ys → AllZip IsSameState xs ys
+  states_alike = alike_items (state_data names) (unit_state_data names) (IsNamedState names) (IsNamedUnitState names)
+      IsSameState state_alike
 
 -- ---- what firms have
 

@@ -22,19 +22,20 @@ use Rattle.tn_model.specs.declared.contract.Contract.{Contract}
 use Rattle.tn_said.specs.declared.holding.Holding.{Holding}
 use Rattle.tn_model.specs.declared.range.Range.{Range}
 use Rattle.tn_said.specs.declared.session.State.{State}
+use Rattle.tn_said.specs.declared.session.UnitState.{UnitState}
 use Rattle.tn_said.specs.declared.units.TradeUnits.{TradeUnits}
 use Rattle.tn_said.specs.declared.units.UnitStep.{UnitStep}
 use Rattle.tn_said.specs.declared.units.UnitHolding.{UnitHolding}
 use Rattle.tn_said.specs.declared.units.UnitRange.{UnitRange}
 use Rattle.tn_said.specs.declared.said.Said.{Said}
-use Rattle.tn_said.specs.declared.said.Said.TheVariants.{Usage, ReadFault, NoMemory, Fault as FaultIs, Equilibrium, Better, BetterByCounts, Impossible, Accepted, ExchangeFails, Supported, SupportedByCounts, Cycle, CycleByCounts, Solved, SolvedByCounts, Drill, Ranges, RangesByCounts, Session, Drops, Completes, Blocks, Valid, Invalid, Cases, Page as PageIs, Firms, FirmsByCounts}
+use Rattle.tn_said.specs.declared.said.Said.TheVariants.{Usage, ReadFault, NoMemory, Fault as FaultIs, Equilibrium, Better, BetterByCounts, Impossible, Accepted, ExchangeFails, Supported, SupportedByCounts, Cycle, CycleByCounts, Solved, SolvedByCounts, Drill, Ranges, RangesByCounts, Session, SessionByCounts, Drops, DropsByCounts, Completes, CompletesByCounts, Blocks, Valid, Invalid, Cases, Page as PageIs, Firms, FirmsByCounts}
 use Rattle.tn_names.specs.Names.{NameLists, IsNameList, is_name}
 use Rattle.tn_said.specs.Words.{word_text}
 use Rattle.tn_answer.specs.Words.{kind_name}
 use Rattle.tn_answer.specs.Rows.{each_from}
 use Rattle.tn_answer.specs.ReasonText.{reason_members, IsShortReason}
-use Rattle.tn_answer.specs.Sayable.{HasShortBounds, HasShortUnitBounds, IsShortEntry, IsShortHolding, IsShortState, IsShortUnitHolding}
-use Rattle.tn_answer.specs.AnswerText.{bounds_data, bundle_data, contract_data, counts_from, direction, entry_data, held_data, holding_data, nodes_data, price_data, range_data, state_data, prices_from, step_data, steps_data, fault_data, unit_holding_data, unit_range_data, unit_step_data, answer, answer_data}
+use Rattle.tn_answer.specs.Sayable.{HasShortBounds, HasShortUnitBounds, IsShortEntry, IsShortHolding, IsShortState, IsShortUnitHolding, IsShortUnitState}
+use Rattle.tn_answer.specs.AnswerText.{bounds_data, bundle_data, contract_data, counts_from, direction, entry_data, held_data, holding_data, nodes_data, price_data, range_data, state_data, prices_from, step_data, steps_data, fault_data, unit_holding_data, unit_range_data, unit_state_data, unit_step_data, answer, answer_data}
 use Rattle.tn_answer.specs.Values.{bound_data, name_data, names_data, option_data}
 use Rattle.tn_names.specs.Named.{HasShortIndex}
 use Rattle.tn_answer.specs.Apart.{HasShortNumbers}
@@ -162,6 +163,14 @@ module _ (names : List (List ℕ)) (kept : IsNameList names) where
   states_are_plain = items_are_plain (state_data names) IsShortState (λ state h. (
     refl,
     names_are_plain state.on,
+    (refl, contracts_are_plain state.prices h.prices, (refl, integer_is_short state.surplus h.surplus, tt)),
+  ))
+
+  unit_states_are_plain : (states : List UnitState) → All IsShortUnitState states
+      → ItemsArePlain (items_of (map (unit_state_data names) states))
+  unit_states_are_plain = items_are_plain (unit_state_data names) IsShortUnitState (λ state h. (
+    refl,
+    bundle_is_plain state.on h.on,
     (refl, contracts_are_plain state.prices h.prices, (refl, integer_is_short state.surplus h.surplus, tt)),
   ))
 
@@ -402,6 +411,23 @@ answer_is_plain names firms trades (RangesByCounts counts ranges ends) h = (
 )
 answer_is_plain names firms trades (Session edits) h =
     (refl, refl, (refl, states_are_plain names.trades trades edits h, tt))
+answer_is_plain names firms trades (SessionByCounts edits) h =
+    (refl, refl, (refl, unit_states_are_plain names.trades trades edits h, tt))
+answer_is_plain names firms trades (DropsByCounts firm keeps gain over) h = (
+  refl,
+  refl,
+  (
+    refl,
+    name_is_plain names.firms firms firm,
+    (
+      refl,
+      bound_is_plain gain h.1,
+      (refl, bundle_is_plain names.trades trades keeps h.0, (refl, integer_is_short over h.2, tt)),
+    ),
+  ),
+)
+answer_is_plain names firms trades (CompletesByCounts prices over) h =
+    (refl, refl, (refl, integer_is_short over h.1, (refl, contracts_are_plain names.trades trades prices h.0, tt)))
 answer_is_plain names firms trades (Drops firm keeps gain over) h = (
   refl,
   refl,

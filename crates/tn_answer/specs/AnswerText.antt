@@ -12,6 +12,7 @@ use Rattle.tn_model.specs.declared.contract.Contract.{Contract}
 use Rattle.tn_said.specs.declared.holding.Holding.{Holding}
 use Rattle.tn_model.specs.declared.range.Range.{Range}
 use Rattle.tn_said.specs.declared.session.State.{State}
+use Rattle.tn_said.specs.declared.session.UnitState.{UnitState}
 use Rattle.tn_said.specs.declared.said.Fault.{Fault}
 use Rattle.tn_said.specs.declared.said.Shown.{Shown}
 use Rattle.tn_said.specs.declared.units.TradeUnits.{TradeUnits}
@@ -19,7 +20,7 @@ use Rattle.tn_said.specs.declared.units.UnitStep.{UnitStep}
 use Rattle.tn_said.specs.declared.units.UnitHolding.{UnitHolding}
 use Rattle.tn_said.specs.declared.units.UnitRange.{UnitRange}
 use Rattle.tn_said.specs.declared.said.Said.{Said}
-use Rattle.tn_said.specs.declared.said.Said.TheVariants.{Usage, ReadFault, NoMemory, Fault as FaultIs, Equilibrium, Better, BetterByCounts, Impossible, Accepted, ExchangeFails, Supported, SupportedByCounts, Cycle, CycleByCounts, Solved, SolvedByCounts, Drill, Ranges, RangesByCounts, Session, Drops, Completes, Blocks, Valid, Invalid, Cases, Page as PageIs, Firms, FirmsByCounts}
+use Rattle.tn_said.specs.declared.said.Said.TheVariants.{Usage, ReadFault, NoMemory, Fault as FaultIs, Equilibrium, Better, BetterByCounts, Impossible, Accepted, ExchangeFails, Supported, SupportedByCounts, Cycle, CycleByCounts, Solved, SolvedByCounts, Drill, Ranges, RangesByCounts, Session, SessionByCounts, Drops, DropsByCounts, Completes, CompletesByCounts, Blocks, Valid, Invalid, Cases, Page as PageIs, Firms, FirmsByCounts}
 use Rattle.tn_names.specs.Names.{NameLists}
 use Rattle.tn_answer.specs.Pages.{lines_text, page_lines}
 use Rattle.tn_answer.specs.ReasonText.{reason_members}
@@ -115,6 +116,16 @@ state_data names state =
 
 abbrev pub states_data : List (List ℕ) → List State → Data
 states_data names states = array (items_of (map (state_data names) states))
+
+-- the same of trades with units
+abbrev pub unit_state_data : List (List ℕ) → UnitState → Data
+unit_state_data names state =
+    object (member (codes "on") (bundle_data names state.on)
+    (member (codes "prices") (contracts_data names state.prices)
+    (member (codes "surplus") (integer_data state.surplus) no_members)))
+
+abbrev pub unit_states_data : List (List ℕ) → List UnitState → Data
+unit_states_data names states = array (items_of (map (unit_state_data names) states))
 
 -- what a firm has, its own bundle and a best one being given, with its name
 abbrev pub held_data : List (List ℕ) → ℕ → Data → Data → Option ℤ → Option ℤ → ℤ → Option ℤ → Data
@@ -223,13 +234,22 @@ answer_form names (RangesByCounts counts ranges ends) =
     (member (codes "ranges") (unit_ranges_data names.trades ranges) no_members)))
 answer_form names (Session edits) =
     json (answer (codes "session") (member (codes "edits") (states_data names.trades edits) no_members))
+answer_form names (SessionByCounts edits) =
+    json (answer (codes "session") (member (codes "edits") (unit_states_data names.trades edits) no_members))
 answer_form names (Drops firm keeps gain over) =
     json (answer (codes "drops") (member (codes "firm") (name_data names.firms firm)
     (member (codes "gain") (bound_data gain) (member (codes "keeps") (names_data names.trades keeps)
     (member (codes "over") (integer_data over) no_members)))))
+answer_form names (DropsByCounts firm keeps gain over) =
+    json (answer (codes "drops") (member (codes "firm") (name_data names.firms firm)
+    (member (codes "gain") (bound_data gain) (member (codes "keeps") (bundle_data names.trades keeps)
+    (member (codes "over") (integer_data over) no_members)))))
 answer_form names (Completes prices over) =
     json (answer (codes "completes") (member (codes "over") (integer_data over)
     (member (codes "prices") (prices_data names.trades prices) no_members)))
+answer_form names (CompletesByCounts prices over) =
+    json (answer (codes "completes") (member (codes "over") (integer_data over)
+    (member (codes "prices") (contracts_data names.trades prices) no_members)))
 answer_form names (Blocks contracts over) =
     json (answer (codes "blocks") (member (codes "contracts") (contracts_data names.trades contracts)
     (member (codes "over") (integer_data over) no_members)))

@@ -3,21 +3,23 @@ use Rattle.std.specs.Prelude.{◌≡◌, ℕ, ℤ, List, [], length, map, All, O
 use Rattle.std.specs.List.{AllZip}
 use Rattle.tn_said.specs.declared.place.PlaceStep.{PlaceStep}
 use Rattle.tn_said.specs.declared.place.PlaceStep.TheVariants.{Key, Trade}
+use Rattle.tn_model.specs.declared.contract.Contract.{Contract}
 use Rattle.tn_model.specs.declared.ends.Ends.{Ends}
 use Rattle.tn_said.specs.declared.holding.Holding.{Holding}
 use Rattle.tn_model.specs.declared.range.Range.{Range}
 use Rattle.tn_said.specs.declared.session.State.{State}
+use Rattle.tn_said.specs.declared.session.UnitState.{UnitState}
 use Rattle.tn_said.specs.declared.said.Fault.{Fault}
 use Rattle.tn_said.specs.declared.units.TradeUnits.{TradeUnits}
 use Rattle.tn_said.specs.declared.units.UnitStep.{UnitStep}
 use Rattle.tn_said.specs.declared.units.UnitHolding.{UnitHolding}
 use Rattle.tn_said.specs.declared.units.UnitRange.{UnitRange}
 use Rattle.tn_said.specs.declared.said.Said.{Said}
-use Rattle.tn_said.specs.declared.said.Said.TheVariants.{Usage, ReadFault, NoMemory, Fault as FaultIs, Equilibrium, Better, BetterByCounts, Impossible, Accepted, ExchangeFails, Supported, SupportedByCounts, Cycle, CycleByCounts, Solved, SolvedByCounts, Drill, Ranges, RangesByCounts, Session, Drops, Completes, Blocks, Valid, Invalid, Cases, Page as PageIs, Firms, FirmsByCounts}
+use Rattle.tn_said.specs.declared.said.Said.TheVariants.{Usage, ReadFault, NoMemory, Fault as FaultIs, Equilibrium, Better, BetterByCounts, Impossible, Accepted, ExchangeFails, Supported, SupportedByCounts, Cycle, CycleByCounts, Solved, SolvedByCounts, Drill, Ranges, RangesByCounts, Session, SessionByCounts, Drops, DropsByCounts, Completes, CompletesByCounts, Blocks, Valid, Invalid, Cases, Page as PageIs, Firms, FirmsByCounts}
 use Rattle.tn_names.specs.Names.{NameLists, IsNameList}
 use Rattle.tn_said.specs.Words.{word_text}
 use Rattle.tn_names.specs.Named.{IsNamed, IsNamedStep, IsNamedTriple, HasShortIndex}
-use Rattle.tn_answer.specs.Rows.{is_listed, units_of}
+use Rattle.tn_answer.specs.Rows.{each_from, is_listed, units_of}
 use Rattle.tn_answer.specs.ReasonText.{IsNamedReason}
 use Rattle.tn_answer.specs.Sayable.{IsSayable}
 use Rattle.tn_answer.specs.AnswerText.{answer_line}
@@ -51,6 +53,10 @@ pub record HasNamedSteps (names : List (List ℕ)) (range : UnitRange) : Type 0 
 pub record IsNamedUnitHolding (names : List (List ℕ)) (holding : UnitHolding) : Type 0 where
   pub best : All (IsNamedEntry names) holding.best
   pub has : All (IsNamedEntry names) holding.has
+
+pub record IsNamedUnitState (names : List (List ℕ)) (state : UnitState) : Type 0 where
+  pub on : All (IsNamedEntry names) state.on
+  pub prices : All (λ contract. IsNamed names contract.trade) state.prices
 
 -- the ends are of trades that have a name, one for each of them, and are firms that have one
 pub record AreNamedEnds (names : NameLists) (ends : List Ends) : Type 0 where
@@ -88,8 +94,12 @@ IsNamedAnswer names (Ranges on ranges ends) = All (IsNamed names.trades) on × (
 IsNamedAnswer names (RangesByCounts counts ranges ends) = (length counts ≡ length names.trades)
     × (length ranges ≡ length names.trades) × All (HasNamedSteps names.trades) ranges × AreNamedEnds names ends
 IsNamedAnswer names (Session edits) = All (IsNamedState names.trades) edits
+IsNamedAnswer names (SessionByCounts edits) = All (IsNamedUnitState names.trades) edits
 IsNamedAnswer names (Drops firm keeps gain over) = IsNamed names.firms firm × All (IsNamed names.trades) keeps
+IsNamedAnswer names (DropsByCounts firm keeps gain over) = IsNamed names.firms firm
+    × All (IsNamedEntry names.trades) keeps
 IsNamedAnswer names (Completes prices over) = length prices ≡ length names.trades
+IsNamedAnswer names (CompletesByCounts prices over) = All (λ contract. IsNamed names.trades contract.trade) prices
 IsNamedAnswer names (Blocks contracts over) = All (λ contract. IsNamed names.trades contract.trade) contracts
 IsNamedAnswer names Valid = Unit {0}
 IsNamedAnswer names (Invalid reason) = IsNamedReason names reason
@@ -145,8 +155,19 @@ pub record IsSameRange (range : Range) (other : UnitRange) : Type 0 where
   pub low : range.low ≡ other.low
   pub low_path : AllZip AreBothNull range.low_path other.low_path
 
--- an answer by trades and one by counts are written alike as objects: a support with the same prices, and others where
--- the members that have trades by units have none, and all else is the same
+-- and so is a state: nothing goes
+pub record IsSameState (state : State) (other : UnitState) : Type 0 where
+  pub on : AreBothEmpty state.on other.on
+  pub prices : state.prices ≡ other.prices
+  pub surplus : state.surplus ≡ other.surplus
+
+-- the prices of all trades, each beside its trade
+abbrev pub beside_trades : ℕ → List ℤ → List Contract
+beside_trades t prices = each_from (λ k price. record { trade = k; price = price }) t prices
+
+-- an answer by trades and one by counts are written alike as objects: a support with the same prices, a completion with
+-- the same prices of all trades, and others where the members that have trades by units have none, and all else is the
+-- same
 abbrev pub IsSameByCounts : Said → Said → Type 0
 IsSameByCounts (Better firm bundle gain) (BetterByCounts other other_bundle other_gain) = (firm ≡ other)
     × AreBothEmpty bundle other_bundle × (gain ≡ other_gain)
@@ -159,6 +180,11 @@ IsSameByCounts (Ranges on ranges ends) (RangesByCounts counts other_ranges other
     × AllZip IsSameRange ranges other_ranges
 IsSameByCounts (Firms content firms surplus) (FirmsByCounts other_content other_firms other_surplus) =
     (content ≡ other_content) × AllZip IsSameHolding firms other_firms × (surplus ≡ other_surplus)
+IsSameByCounts (Session edits) (SessionByCounts others) = AllZip IsSameState edits others
+IsSameByCounts (Drops firm keeps gain over) (DropsByCounts other other_keeps other_gain other_over) = (firm ≡ other)
+    × AreBothEmpty keeps other_keeps × (gain ≡ other_gain) × (over ≡ other_over)
+IsSameByCounts (Completes prices over) (CompletesByCounts contracts other_over) = (beside_trades 0 prices ≡ contracts)
+    × (over ≡ other_over)
 IsSameByCounts first second = ⊥
 
 -- answers are written alike as objects: two faults that are, or equal answers, but that an object doesn't tell the ends
@@ -191,6 +217,12 @@ IsSameObject names (Ranges x r e) (RangesByCounts y s d) = IsSameByCounts (Range
 IsSameObject names (RangesByCounts y s d) (Ranges x r e) = IsSameByCounts (Ranges x r e) (RangesByCounts y s d)
 IsSameObject names (Firms m x s) (FirmsByCounts n y t) = IsSameByCounts (Firms m x s) (FirmsByCounts n y t)
 IsSameObject names (FirmsByCounts n y t) (Firms m x s) = IsSameByCounts (Firms m x s) (FirmsByCounts n y t)
+IsSameObject names (Session x) (SessionByCounts y) = IsSameByCounts (Session x) (SessionByCounts y)
+IsSameObject names (SessionByCounts y) (Session x) = IsSameByCounts (Session x) (SessionByCounts y)
+IsSameObject names (Drops f x u d) (DropsByCounts g y v e) = IsSameByCounts (Drops f x u d) (DropsByCounts g y v e)
+IsSameObject names (DropsByCounts g y v e) (Drops f x u d) = IsSameByCounts (Drops f x u d) (DropsByCounts g y v e)
+IsSameObject names (Completes x d) (CompletesByCounts y e) = IsSameByCounts (Completes x d) (CompletesByCounts y e)
+IsSameObject names (CompletesByCounts y e) (Completes x d) = IsSameByCounts (Completes x d) (CompletesByCounts y e)
 IsSameObject names first second = first ≡ second
 
 -- the same trades are on

@@ -6,11 +6,12 @@ use Rattle.tn_model.specs.Limits.{most_number, most_price}
 use Rattle.tn_said.specs.declared.holding.Holding.{Holding}
 use Rattle.tn_model.specs.declared.range.Range.{Range}
 use Rattle.tn_said.specs.declared.session.State.{State}
+use Rattle.tn_said.specs.declared.session.UnitState.{UnitState}
 use Rattle.tn_said.specs.declared.units.TradeUnits.{TradeUnits}
 use Rattle.tn_said.specs.declared.units.UnitHolding.{UnitHolding}
 use Rattle.tn_said.specs.declared.units.UnitRange.{UnitRange}
 use Rattle.tn_said.specs.declared.said.Said.{Said}
-use Rattle.tn_said.specs.declared.said.Said.TheVariants.{Usage, ReadFault, NoMemory, Fault as FaultIs, Equilibrium, Better, BetterByCounts, Impossible, Accepted, ExchangeFails, Supported, SupportedByCounts, Cycle, CycleByCounts, Solved, SolvedByCounts, Drill, Ranges, RangesByCounts, Session, Drops, Completes, Blocks, Valid, Invalid, Cases, Page as PageIs, Firms, FirmsByCounts}
+use Rattle.tn_said.specs.declared.said.Said.TheVariants.{Usage, ReadFault, NoMemory, Fault as FaultIs, Equilibrium, Better, BetterByCounts, Impossible, Accepted, ExchangeFails, Supported, SupportedByCounts, Cycle, CycleByCounts, Solved, SolvedByCounts, Drill, Ranges, RangesByCounts, Session, SessionByCounts, Drops, DropsByCounts, Completes, CompletesByCounts, Blocks, Valid, Invalid, Cases, Page as PageIs, Firms, FirmsByCounts}
 use Rattle.tn_names.specs.Named.{IsAscendingTriple}
 use Rattle.tn_answer.specs.ReasonText.{IsReasonWithin, HasAscendingBundles}
 
@@ -53,6 +54,11 @@ pub record IsWithinUnitHolding (holding : UnitHolding) : Type 0 where
   pub utility : IfSome holding.utility IsWithinClaim
   pub worth : IfSome holding.worth IsWithinClaim
 
+pub record IsWithinUnitState (state : UnitState) : Type 0 where
+  pub on : All IsWithinEntry state.on
+  pub prices : All (λ contract. IsWithinPrices contract.price) state.prices
+  pub surplus : IsWithinClaim state.surplus
+
 -- the numbers of an answer are within the limits of claims
 abbrev pub IsWithinClaims : Said → Type 0
 IsWithinClaims Usage = Unit {0}
@@ -77,8 +83,13 @@ IsWithinClaims (Drill size start firms surplus) = (size < 2 ^ 32) × (start < 2 
 IsWithinClaims (Ranges on ranges ends) = All HasWithinBounds ranges
 IsWithinClaims (RangesByCounts counts ranges ends) = All (λ n. n < 2 ^ 32) counts × All HasWithinUnitBounds ranges
 IsWithinClaims (Session edits) = All IsWithinState edits
+IsWithinClaims (SessionByCounts edits) = All IsWithinUnitState edits
 IsWithinClaims (Drops firm keeps gain over) = IfSome gain IsWithinClaim × IsWithinClaim over
+IsWithinClaims (DropsByCounts firm keeps gain over) = All IsWithinEntry keeps × IfSome gain IsWithinClaim
+    × IsWithinClaim over
 IsWithinClaims (Completes prices over) = All IsWithinClaim prices × IsWithinClaim over
+IsWithinClaims (CompletesByCounts prices over) = All (λ contract. IsWithinClaim contract.price) prices
+    × IsWithinClaim over
 IsWithinClaims (Blocks contracts over) = All (λ contract. IsWithinClaim contract.price) contracts × IsWithinClaim over
 IsWithinClaims Valid = Unit {0}
 IsWithinClaims (Invalid reason) = IsReasonWithin reason
@@ -108,6 +119,10 @@ pub record HasUnitBundles (holding : UnitHolding) : Type 0 where
   pub best : IsUnitBundle holding.best
   pub has : IsUnitBundle holding.has
 
+pub record IsAscendingUnitState (state : UnitState) : Type 0 where
+  pub on : IsUnitBundle state.on
+  pub prices : IsStrictlyIncreasing (map (λ contract. contract.trade) state.prices)
+
 -- each list of trades in an answer ascends strictly, and where it has units, some of each trade
 abbrev pub HasAscendingTrades : Said → Type 0
 HasAscendingTrades Usage = Unit {0}
@@ -130,8 +145,11 @@ HasAscendingTrades (Drill size start firms surplus) = Unit {0}
 HasAscendingTrades (Ranges on ranges ends) = IsStrictlyIncreasing on
 HasAscendingTrades (RangesByCounts counts ranges ends) = Unit {0}
 HasAscendingTrades (Session edits) = All IsAscendingState edits
+HasAscendingTrades (SessionByCounts edits) = All IsAscendingUnitState edits
 HasAscendingTrades (Drops firm keeps gain over) = IsStrictlyIncreasing keeps
+HasAscendingTrades (DropsByCounts firm keeps gain over) = IsUnitBundle keeps
 HasAscendingTrades (Completes prices over) = Unit {0}
+HasAscendingTrades (CompletesByCounts prices over) = IsStrictlyIncreasing (map (λ contract. contract.trade) prices)
 HasAscendingTrades (Blocks contracts over) = Unit {0}
 HasAscendingTrades Valid = Unit {0}
 HasAscendingTrades (Invalid reason) = HasAscendingBundles reason

@@ -5,8 +5,9 @@ use Rattle.tn_said.specs.declared.place.PlaceStep.{PlaceStep}
 use Rattle.tn_said.specs.declared.place.PlaceStep.TheVariants.{Key, Index, Trade}
 use Rattle.tn_said.specs.declared.said.Shown.{Shown}
 use Rattle.tn_said.specs.declared.session.State.{State}
+use Rattle.tn_said.specs.declared.session.UnitState.{UnitState}
 use Rattle.tn_said.specs.declared.said.Said.{Said}
-use Rattle.tn_said.specs.declared.said.Said.TheVariants.{Usage, ReadFault, NoMemory, Fault as FaultIs, Equilibrium, Better, BetterByCounts, Impossible, Accepted, ExchangeFails, Supported, SupportedByCounts, Cycle, CycleByCounts, Solved, SolvedByCounts, Drill, Ranges, RangesByCounts, Session, Drops, Completes, Blocks, Valid, Invalid, Cases, Page as PageIs, Firms, FirmsByCounts}
+use Rattle.tn_said.specs.declared.said.Said.TheVariants.{Usage, ReadFault, NoMemory, Fault as FaultIs, Equilibrium, Better, BetterByCounts, Impossible, Accepted, ExchangeFails, Supported, SupportedByCounts, Cycle, CycleByCounts, Solved, SolvedByCounts, Drill, Ranges, RangesByCounts, Session, SessionByCounts, Drops, DropsByCounts, Completes, CompletesByCounts, Blocks, Valid, Invalid, Cases, Page as PageIs, Firms, FirmsByCounts}
 use Rattle.tn_names.specs.Names.{NameLists}
 use Rattle.tn_answer.specs.ReasonText.{reason_names_nothing}
 use Rattle.tn_answer.specs.Sayable.{IsSayable}
@@ -34,6 +35,9 @@ has_no_units counts = list_all (λ n. n == 0) counts
 abbrev pub state_names_nothing : State → Bool
 state_names_nothing state = are_none state.on && is_empty state.prices
 
+abbrev pub unit_state_names_nothing : UnitState → Bool
+unit_state_names_nothing state = is_empty state.on && is_empty state.prices
+
 abbrev pub names_no_trade_in : Option Shown → Bool
 names_no_trade_in None = true
 names_no_trade_in (Some shown) = are_none shown.x && are_none shown.y && is_none shown.at
@@ -60,8 +64,11 @@ names_nothing (Drill size start firms surplus) = true
 names_nothing (Ranges on ranges ends) = are_none on && is_empty ranges
 names_nothing (RangesByCounts counts ranges ends) = has_no_units counts && is_empty ranges
 names_nothing (Session edits) = list_all state_names_nothing edits
+names_nothing (SessionByCounts edits) = list_all unit_state_names_nothing edits
 names_nothing (Drops firm keeps gain over) = false
+names_nothing (DropsByCounts firm keeps gain over) = false
 names_nothing (Completes prices over) = is_empty prices
+names_nothing (CompletesByCounts prices over) = is_empty prices
 names_nothing (Blocks contracts over) = is_empty contracts
 names_nothing Valid = true
 names_nothing (Invalid reason) = reason_names_nothing reason

@@ -4,11 +4,12 @@ use Rattle.std.specs.Int.{w64}
 use Rattle.tn_said.specs.declared.holding.Holding.{Holding}
 use Rattle.tn_model.specs.declared.range.Range.{Range}
 use Rattle.tn_said.specs.declared.session.State.{State}
+use Rattle.tn_said.specs.declared.session.UnitState.{UnitState}
 use Rattle.tn_said.specs.declared.units.TradeUnits.{TradeUnits}
 use Rattle.tn_said.specs.declared.units.UnitHolding.{UnitHolding}
 use Rattle.tn_said.specs.declared.units.UnitRange.{UnitRange}
 use Rattle.tn_said.specs.declared.said.Said.{Said}
-use Rattle.tn_said.specs.declared.said.Said.TheVariants.{Usage, ReadFault, NoMemory, Fault as FaultIs, Equilibrium, Better, BetterByCounts, Impossible, Accepted, ExchangeFails, Supported, SupportedByCounts, Cycle, CycleByCounts, Solved, SolvedByCounts, Drill, Ranges, RangesByCounts, Session, Drops, Completes, Blocks, Valid, Invalid, Cases, Page as PageIs, Firms, FirmsByCounts}
+use Rattle.tn_said.specs.declared.said.Said.TheVariants.{Usage, ReadFault, NoMemory, Fault as FaultIs, Equilibrium, Better, BetterByCounts, Impossible, Accepted, ExchangeFails, Supported, SupportedByCounts, Cycle, CycleByCounts, Solved, SolvedByCounts, Drill, Ranges, RangesByCounts, Session, SessionByCounts, Drops, DropsByCounts, Completes, CompletesByCounts, Blocks, Valid, Invalid, Cases, Page as PageIs, Firms, FirmsByCounts}
 use Rattle.tn_answer.specs.ReasonText.{IsShortReason}
 
 -- the numbers of a range, of a state, and of what a firm has fit 64 bits
@@ -42,6 +43,11 @@ pub record IsShortUnitHolding (holding : UnitHolding) : Type 0 where
   pub utility : IfSome holding.utility (FitsSigned w64)
   pub worth : IfSome holding.worth (FitsSigned w64)
 
+pub record IsShortUnitState (state : UnitState) : Type 0 where
+  pub on : All IsShortEntry state.on
+  pub prices : All (λ contract. FitsSigned w64 contract.price) state.prices
+  pub surplus : FitsSigned w64 state.surplus
+
 abbrev pub IsSayable : Said → Type 0
 IsSayable Usage = Unit {0}
 IsSayable ReadFault = Unit {0}
@@ -65,8 +71,12 @@ IsSayable (Drill size start firms surplus) = (size < 2 ^ 64) × (start < 2 ^ 64)
 IsSayable (Ranges on ranges ends) = All HasShortBounds ranges
 IsSayable (RangesByCounts counts ranges ends) = All (λ n. n < 2 ^ 64) counts × All HasShortUnitBounds ranges
 IsSayable (Session edits) = All IsShortState edits
+IsSayable (SessionByCounts edits) = All IsShortUnitState edits
 IsSayable (Drops firm keeps gain over) = IfSome gain (FitsSigned w64) × FitsSigned w64 over
+IsSayable (DropsByCounts firm keeps gain over) = All IsShortEntry keeps × IfSome gain (FitsSigned w64)
+    × FitsSigned w64 over
 IsSayable (Completes prices over) = All (FitsSigned w64) prices × FitsSigned w64 over
+IsSayable (CompletesByCounts prices over) = All (λ contract. FitsSigned w64 contract.price) prices × FitsSigned w64 over
 IsSayable (Blocks contracts over) = All (λ contract. FitsSigned w64 contract.price) contracts × FitsSigned w64 over
 IsSayable Valid = Unit {0}
 IsSayable (Invalid reason) = IsShortReason reason

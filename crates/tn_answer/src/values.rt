@@ -8,7 +8,7 @@ ghost use Rattle.serde_json.specs.Data.{no_members};
 ghost use Rattle.serde_json.specs.View.{view};
 ghost use Rattle.tn_answer.specs.AnswerText.{answer, answer_data, fault_data, price_data, step_data};
 ghost use Rattle.tn_answer.specs.Values.{name_data, option_data};
-ghost use Rattle.tn_answer.specs.Sayable.{HasShortBounds, HasShortUnitBounds, IsSayable, IsShortState};
+ghost use Rattle.tn_answer.specs.Sayable.{HasShortBounds, HasShortUnitBounds, IsSayable, IsShortState, IsShortUnitState};
 
 use crate::arrays::Items;
 use crate::fields::{Field, answer_of, object_with};
@@ -21,7 +21,7 @@ use tn_model::{Contracts, Nodes, Prices, Ranges, Trades};
 use tn_names::Names;
 use tn_said::{
     Counts, Fault, Numbers, Place, PlaceStep, Said, Shown, States, UnitBundle, UnitRanges,
-    UnitSteps,
+    UnitStates, UnitSteps,
 };
 
 pub(crate) fn answer_value(alloc: Global, names: &Names, said: &Said) -> Result<Value, AllocError>
@@ -72,13 +72,23 @@ pub(crate) fn answer_value(alloc: Global, names: &Names, said: &Said) -> Result<
             ranged_by_counts_value(alloc, names, counts, ranges)
         }
         Said::Session { edits } => session_value(alloc, names, edits),
+        Said::SessionByCounts { edits } => session_by_counts_value(alloc, names, edits),
         Said::Drops {
             firm,
             keeps,
             gain,
             over,
         } => drops_value(alloc, names, *firm, keeps, *gain, *over),
+        Said::DropsByCounts {
+            firm,
+            keeps,
+            gain,
+            over,
+        } => drops_by_counts_value(alloc, names, *firm, keeps, *gain, *over),
         Said::Completes { prices, over } => completes_value(alloc, names, prices, *over),
+        Said::CompletesByCounts { prices, over } => {
+            completes_by_counts_value(alloc, names, prices, *over)
+        }
         Said::Blocks { contracts, over } => blocks_value(alloc, names, contracts, *over),
         Said::Valid => plain_value(alloc, names, "valid"),
         Said::Invalid(reason) => invalid_value(alloc, names, reason),
@@ -355,6 +365,18 @@ fn session_value(alloc: Global, names: &Names, edits: &States) -> Result<Value, 
     object_with(alloc, names, &fields, "edits", edits)
 }
 
+fn session_by_counts_value(
+    alloc: Global,
+    names: &Names,
+    edits: &UnitStates,
+) -> Result<Value, AllocError>
+    requires { All IsShortUnitState edits.now }
+    ensures { IfOk result (λ value. view value ≡ answer_data names.now (Said.SessionByCounts edits.now)) }
+{
+    let fields = [("answer", Field::Word("session"))];
+    object_with(alloc, names, &fields, "edits", edits)
+}
+
 fn drops_value(
     alloc: Global,
     names: &Names,
@@ -377,6 +399,28 @@ fn drops_value(
     answer_of(alloc, names, "drops", &fields)
 }
 
+fn drops_by_counts_value(
+    alloc: Global,
+    names: &Names,
+    firm: u32,
+    keeps: &UnitBundle,
+    gain: Option<i128>,
+    over: i128,
+) -> Result<Value, AllocError>
+    requires gain { IfSome gain (FitsSigned w64) }
+    requires over { FitsSigned w64 over }
+    ensures { IfOk result
+        (λ value. view value ≡ answer_data names.now (Said.DropsByCounts firm keeps.now gain over)) }
+{
+    let fields = [
+        ("firm", Field::Firm(firm)),
+        ("gain", Field::Bound(gain)),
+        ("keeps", Field::UnitBundle(keeps)),
+        ("over", Field::Number(over)),
+    ];
+    answer_of(alloc, names, "drops", &fields)
+}
+
 fn completes_value(
     alloc: Global,
     names: &Names,
@@ -391,6 +435,24 @@ fn completes_value(
     let fields = [
         ("over", Field::Number(over)),
         ("prices", Field::Prices(prices)),
+    ];
+    answer_of(alloc, names, "completes", &fields)
+}
+
+fn completes_by_counts_value(
+    alloc: Global,
+    names: &Names,
+    prices: &Contracts,
+    over: i128,
+) -> Result<Value, AllocError>
+    requires prices { All (λ contract. FitsSigned w64 contract.price) prices.now }
+    requires over { FitsSigned w64 over }
+    ensures { IfOk result
+        (λ value. view value ≡ answer_data names.now (Said.CompletesByCounts prices.now over)) }
+{
+    let fields = [
+        ("over", Field::Number(over)),
+        ("prices", Field::Contracts(prices)),
     ];
     answer_of(alloc, names, "completes", &fields)
 }

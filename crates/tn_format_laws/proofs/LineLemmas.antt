@@ -9,7 +9,7 @@ use Rattle.json.specs.Print.{escape, escape_byte, escape_letter, quoted}
 use Rattle.serde_json.specs.Data.{Data, Items, Members, Num, array, boolean, float, item, member, negative, no_items, no_members, null, number, object, string, unsigned}
 use Rattle.serde_json.specs.Written.{comma_if, compact_text, items_text, members_text, number_text}
 use Rattle.tn_said.specs.declared.said.Said.{Said}
-use Rattle.tn_said.specs.declared.said.Said.TheVariants.{Usage, ReadFault, NoMemory, Fault, Equilibrium, Better, BetterByCounts, Impossible, Accepted, ExchangeFails, Supported, SupportedByCounts, Cycle, CycleByCounts, Solved, SolvedByCounts, Drill, Ranges, RangesByCounts, Session, Drops, Completes, Blocks, Valid, Invalid, Cases, Page, Firms, FirmsByCounts}
+use Rattle.tn_said.specs.declared.said.Said.TheVariants.{Usage, ReadFault, NoMemory, Fault, Equilibrium, Better, BetterByCounts, Impossible, Accepted, ExchangeFails, Supported, SupportedByCounts, Cycle, CycleByCounts, Solved, SolvedByCounts, Drill, Ranges, RangesByCounts, Session, SessionByCounts, Drops, DropsByCounts, Completes, CompletesByCounts, Blocks, Valid, Invalid, Cases, Page, Firms, FirmsByCounts}
 use Rattle.tn_names.specs.Names.{NameLists}
 use Rattle.tn_answer.specs.AnswerText.{answer_data, answer_form, answer_line, answer_table, form_text, text_of}
 use Rattle.tn_answer.specs.declared.layout.Layout.{Layout}
@@ -183,8 +183,12 @@ form_line names (Ranges on ranges ends) other = value_line (answer_data names (R
 form_line names (RangesByCounts counts ranges ends) other =
     value_line (answer_data names (RangesByCounts counts ranges ends))
 form_line names (Session edits) other = value_line (answer_data names (Session edits))
+form_line names (SessionByCounts edits) other = value_line (answer_data names (SessionByCounts edits))
 form_line names (Drops firm keeps gain over) other = value_line (answer_data names (Drops firm keeps gain over))
+form_line names (DropsByCounts firm keeps gain over) other =
+    value_line (answer_data names (DropsByCounts firm keeps gain over))
 form_line names (Completes prices over) other = value_line (answer_data names (Completes prices over))
+form_line names (CompletesByCounts prices over) other = value_line (answer_data names (CompletesByCounts prices over))
 form_line names (Blocks contracts over) other = value_line (answer_data names (Blocks contracts over))
 form_line names Valid other = value_line (answer_data names Valid)
 form_line names (Invalid reason) other = value_line (answer_data names (Invalid reason))
@@ -215,8 +219,11 @@ object_has_no_rows names (Drill size start firms surplus) = refl
 object_has_no_rows names (Ranges on ranges ends) = refl
 object_has_no_rows names (RangesByCounts counts ranges ends) = refl
 object_has_no_rows names (Session edits) = refl
+object_has_no_rows names (SessionByCounts edits) = refl
 object_has_no_rows names (Drops firm keeps gain over) = refl
+object_has_no_rows names (DropsByCounts firm keeps gain over) = refl
 object_has_no_rows names (Completes prices over) = refl
+object_has_no_rows names (CompletesByCounts prices over) = refl
 object_has_no_rows names (Blocks contracts over) = refl
 object_has_no_rows names Valid = refl
 object_has_no_rows names (Invalid reason) = refl

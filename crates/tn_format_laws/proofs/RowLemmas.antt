@@ -11,7 +11,7 @@ use Rattle.tn_said.specs.declared.holding.Holding.{Holding}
 use Rattle.tn_said.specs.declared.units.TradeUnits.{TradeUnits}
 use Rattle.tn_said.specs.declared.units.UnitHolding.{UnitHolding}
 use Rattle.tn_said.specs.declared.said.Said.{Said}
-use Rattle.tn_said.specs.declared.said.Said.TheVariants.{Usage, ReadFault, NoMemory, Fault, Equilibrium, Better, BetterByCounts, Impossible, Accepted, ExchangeFails, Supported, SupportedByCounts, Cycle, CycleByCounts, Solved, SolvedByCounts, Drill, Ranges, RangesByCounts, Session, Drops, Completes, Blocks, Valid, Invalid, Cases, Page, Firms, FirmsByCounts}
+use Rattle.tn_said.specs.declared.said.Said.TheVariants.{Usage, ReadFault, NoMemory, Fault, Equilibrium, Better, BetterByCounts, Impossible, Accepted, ExchangeFails, Supported, SupportedByCounts, Cycle, CycleByCounts, Solved, SolvedByCounts, Drill, Ranges, RangesByCounts, Session, SessionByCounts, Drops, DropsByCounts, Completes, CompletesByCounts, Blocks, Valid, Invalid, Cases, Page, Firms, FirmsByCounts}
 use Rattle.tn_names.specs.Names.{IsNameList, NameLists, is_between, is_name_byte, most_letters}
 use Rattle.tn_answer.specs.AnswerText.{answer_form, answer_line, answer_table, text_of}
 use Rattle.tn_answer.specs.Rows.{bound_text, bounds_row, bundle_text, buyer_text, deal_row, each_from, entry_text, firm_row, flag_text, held_row, is_listed, is_nothing, name_text, on_flags, on_units, price_row, range_row, rows_text, seller_text, spaced_text, unit_bundle_text, unit_firm_row, unit_range_row, units_of}
@@ -280,8 +280,11 @@ module _ (names : NameLists) (firms : IsNameList names.firms) (trades : IsNameLi
       (units_unbroken counts) ends k range.low range.high) 0 ranges
   table_unbroken (RangesByCounts counts ranges ends) WideRows = tt
   table_unbroken (Session edits) layout = tt
+  table_unbroken (SessionByCounts edits) layout = tt
   table_unbroken (Drops firm keeps gain over) layout = tt
+  table_unbroken (DropsByCounts firm keeps gain over) layout = tt
   table_unbroken (Completes prices over) layout = tt
+  table_unbroken (CompletesByCounts prices over) layout = tt
   table_unbroken (Blocks contracts over) layout = tt
   table_unbroken Valid layout = tt
   table_unbroken (Invalid reason) layout = tt

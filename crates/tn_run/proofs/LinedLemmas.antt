@@ -8,7 +8,7 @@ use Rattle.std.proofs.lemmas.List.Concat.{flat_map-append}
 use Rattle.std.proofs.lemmas.List.Elements.{All-push}
 use Rattle.std.proofs.lemmas.List.Folds.{list_any-append}
 use Rattle.tn_said.specs.declared.said.Said.{Said}
-use Rattle.tn_said.specs.declared.said.Said.TheVariants.{Usage, ReadFault, NoMemory, Fault, Equilibrium, Better, BetterByCounts, Impossible, Accepted, ExchangeFails, Supported, SupportedByCounts, Cycle, CycleByCounts, Solved, SolvedByCounts, Drill, Ranges, RangesByCounts, Session, Drops, Completes, Blocks, Valid, Invalid, Cases, Page as PageIs, Firms, FirmsByCounts}
+use Rattle.tn_said.specs.declared.said.Said.TheVariants.{Usage, ReadFault, NoMemory, Fault, Equilibrium, Better, BetterByCounts, Impossible, Accepted, ExchangeFails, Supported, SupportedByCounts, Cycle, CycleByCounts, Solved, SolvedByCounts, Drill, Ranges, RangesByCounts, Session, SessionByCounts, Drops, DropsByCounts, Completes, CompletesByCounts, Blocks, Valid, Invalid, Cases, Page as PageIs, Firms, FirmsByCounts}
 use Rattle.tn_names.specs.Names.{NameLists, no_names}
 use Rattle.tn_answer.specs.AnswerText.{answer_line}
 use Rattle.tn_answer.specs.Kept.{IsWithinClaims}
@@ -243,8 +243,11 @@ never_failed (Drill size start firms surplus) is = absurd (omega (arith, is))
 never_failed (Ranges on ranges ends) is = absurd (omega (arith, is))
 never_failed (RangesByCounts counts ranges ends) is = absurd (omega (arith, is))
 never_failed (Session edits) is = absurd (omega (arith, is))
+never_failed (SessionByCounts edits) is = absurd (omega (arith, is))
 never_failed (Drops firm keeps gain over) is = absurd (omega (arith, is))
+never_failed (DropsByCounts firm keeps gain over) is = absurd (omega (arith, is))
 never_failed (Completes prices over) is = absurd (omega (arith, is))
+never_failed (CompletesByCounts prices over) is = absurd (omega (arith, is))
 never_failed (Blocks contracts over) is = absurd (omega (arith, is))
 never_failed Valid is = absurd (omega (arith, is))
 never_failed (Invalid reason) is = absurd (omega (arith, is))

@@ -1,7 +1,7 @@
 -- What a whole run comes to.
 use Rattle.std.specs.Prelude.{◌≡◌, ℕ, ◌==◌, ◌⊎◌, List, [], ◌∷◌, length, if◌then◌else◌, Option}
 use Rattle.tn_said.specs.declared.said.Said.{Said}
-use Rattle.tn_said.specs.declared.said.Said.TheVariants.{Usage, ReadFault, NoMemory, Fault, Equilibrium, Better, BetterByCounts, Impossible, Accepted, ExchangeFails, Supported, SupportedByCounts, Cycle, CycleByCounts, Solved, SolvedByCounts, Drill, Ranges, RangesByCounts, Session, Drops, Completes, Blocks, Valid, Invalid, Cases, Page as PageIs, Firms, FirmsByCounts}
+use Rattle.tn_said.specs.declared.said.Said.TheVariants.{Usage, ReadFault, NoMemory, Fault, Equilibrium, Better, BetterByCounts, Impossible, Accepted, ExchangeFails, Supported, SupportedByCounts, Cycle, CycleByCounts, Solved, SolvedByCounts, Drill, Ranges, RangesByCounts, Session, SessionByCounts, Drops, DropsByCounts, Completes, CompletesByCounts, Blocks, Valid, Invalid, Cases, Page as PageIs, Firms, FirmsByCounts}
 use Rattle.tn_io.specs.Counts.{Rose}
 use Rattle.tn_io.specs.Sink.{Grows, GrowsByPrefix}
 use Rattle.tn_names.specs.Names.{NameLists}
@@ -33,8 +33,11 @@ status_of (Drill size start firms surplus) = Yes
 status_of (Ranges on ranges ends) = Yes
 status_of (RangesByCounts counts ranges ends) = Yes
 status_of (Session edits) = Yes
+status_of (SessionByCounts edits) = Yes
 status_of (Drops firm keeps gain over) = No
+status_of (DropsByCounts firm keeps gain over) = No
 status_of (Completes prices over) = Yes
+status_of (CompletesByCounts prices over) = Yes
 status_of (Blocks contracts over) = No
 status_of Valid = Yes
 status_of (Invalid reason) = No

@@ -72,7 +72,9 @@ pub fn status_of(said: &Said) -> Status
         | Said::Ranges { .. }
         | Said::RangesByCounts { .. }
         | Said::Session { .. }
+        | Said::SessionByCounts { .. }
         | Said::Completes { .. }
+        | Said::CompletesByCounts { .. }
         | Said::Valid
         | Said::Page(_) => Status::Yes,
         Said::Fault(_) => Status::Fault,
@@ -86,6 +88,7 @@ pub fn status_of(said: &Said) -> Status
         | Said::Cycle { .. }
         | Said::CycleByCounts { .. }
         | Said::Drops { .. }
+        | Said::DropsByCounts { .. }
         | Said::Blocks { .. }
         | Said::Invalid(_) => Status::No,
         Said::Cases { failed, .. } => {

@@ -18,12 +18,12 @@ pub use claim::{FirmClaim, MarketClaim};
 pub use fault::FaultKind;
 pub use holding::Holding;
 pub use lists::{
-    Counts, Edits, Holdings, Numbers, Parts, Place, States, UnitBundle, UnitHoldings, UnitRanges,
-    UnitSteps,
+    Counts, Edits, Holdings, Numbers, Parts, Place, States, UnitBundle, UnitEdits, UnitHoldings,
+    UnitRanges, UnitStates, UnitSteps,
 };
 pub use part::Part;
 pub use place::{PlaceStep, Word};
 pub use reason::Reason;
 pub use said::{Fault, Page, Said, Shown, Topic};
-pub use session::{Edit, State};
+pub use session::{Edit, State, UnitEdit, UnitState};
 pub use units::{TradeUnits, UnitHolding, UnitRange, UnitStep};

@@ -3,7 +3,7 @@
 use crate::holding::Holding;
 use crate::part::Part;
 use crate::place::PlaceStep;
-use crate::session::{Edit, State};
+use crate::session::{Edit, State, UnitEdit, UnitState};
 use crate::units::{TradeUnits, UnitHolding, UnitRange, UnitStep};
 use tn_model::{Lent, Listed};
 
@@ -26,6 +26,10 @@ pub type Holdings = Lent<Holding>;
 pub type Edits = Lent<Edit>;
 /// An equilibrium after each of some changes, in order.
 pub type States = Lent<State>;
+/// Changes of the admitted units and of the firms that are there, in the order in which they are made.
+pub type UnitEdits = Lent<UnitEdit>;
+/// An equilibrium by counts after each of some changes, in order.
+pub type UnitStates = Lent<UnitState>;
 /// What each firm has in an arrangement of counts, by firm number.
 pub type UnitHoldings = Lent<UnitHolding>;
 /// What the prices of each trade with units may be, by trade number.

@@ -2,7 +2,8 @@
 
 use crate::fault::FaultKind;
 use crate::lists::{
-    Counts, Holdings, Numbers, Place, States, UnitBundle, UnitHoldings, UnitRanges, UnitSteps,
+    Counts, Holdings, Numbers, Place, States, UnitBundle, UnitHoldings, UnitRanges, UnitStates,
+    UnitSteps,
 };
 use crate::reason::Reason;
 use tn_model::{Contracts, Nodes, Prices, Ranges, TradeEnds, Trades};
@@ -196,6 +197,11 @@ pub enum Said {
         /// An equilibrium of the trades that are admitted after each change, in order.
         edits: States,
     },
+    /// What follows from changes of the admitted units of trades.
+    SessionByCounts {
+        /// An equilibrium by counts of the units that are usable after each change, in order.
+        edits: UnitStates,
+    },
     /// A firm would rather drop some of its contracts.
     Drops {
         /// The first firm that would.
@@ -207,10 +213,28 @@ pub enum Said {
         /// The denominator of the gain, which is the outcome's.
         over: i128,
     },
+    /// A firm would rather drop some units of its contracts on trades with units.
+    DropsByCounts {
+        /// The first firm that would.
+        firm: u32,
+        /// How many units of each trade it would keep, ascending by trade: a choice of the firm from its contracts.
+        keeps: UnitBundle,
+        /// What the firm's utility gains, none where its contracts together are an impossible bundle.
+        gain: Option<i128>,
+        /// The denominator of the gain, which is the outcome's.
+        over: i128,
+    },
     /// With these prices the outcome is completed to an equilibrium.
     Completes {
         /// The price of each trade, by trade number.
         prices: Prices,
+        /// The denominator, which is the outcome's.
+        over: i128,
+    },
+    /// With these prices of the units that aren't signed the outcome is completed to an equilibrium by counts.
+    CompletesByCounts {
+        /// The trades with such a unit at the prices of a unit, ascending.
+        prices: Contracts,
         /// The denominator, which is the outcome's.
         over: i128,
     },

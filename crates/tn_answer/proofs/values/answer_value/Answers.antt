@@ -21,6 +21,9 @@ ranged_value-requires c = subst IsSayable c.in-Ranges.is c.requires
 pub session_value-requires : goal.session_value-requires
 session_value-requires c = subst IsSayable c.in-Session.is c.requires
 
+pub session_by_counts_value-requires : goal.session_by_counts_value-requires
+session_by_counts_value-requires c = subst IsSayable c.in-SessionByCounts.is c.requires
+
 pub invalid_value-requires : goal.invalid_value-requires
 invalid_value-requires c = subst IsSayable c.in-Invalid.is c.requires
 
@@ -53,6 +56,9 @@ returns-in-Ranges c = made _ c.args.names.now _ _ _ c.in-Ranges.is c.ranged_valu
 
 pub returns-in-Session : goal.returns-in-Session
 returns-in-Session c = made _ c.args.names.now _ _ _ c.in-Session.is c.session_value.ensures
+
+pub returns-in-SessionByCounts : goal.returns-in-SessionByCounts
+returns-in-SessionByCounts c = made _ c.args.names.now _ _ _ c.in-SessionByCounts.is c.session_by_counts_value.ensures
 
 pub returns-in-Valid : goal.returns-in-Valid
 returns-in-Valid c = made _ c.args.names.now _ _ _ c.in-Valid.is c.plain_value-in-Valid.ensures
