@@ -15,7 +15,7 @@ use tn_said::{Edit, Edits, FaultKind, PlaceStep, Word};
 
 /// What an edit does with what it names.
 #[derive(Clone, Copy)]
-enum Change {
+pub enum Change {
     /// It admits a trade, or all.
     Admit,
     /// It bars a trade, or all.
@@ -27,7 +27,7 @@ enum Change {
 }
 
 /// The text that stands for all trades. No name has this letter.
-const ALL_TRADES: &str = "*";
+pub const ALL_TRADES: &str = "*";
 
 /// The edits of a document, in their order.
 #[tactic(auto, unfolding(crate::specs::Edited::edits_of))]
@@ -93,8 +93,8 @@ fn edit_at(alloc: Global, head: &Head, k: u32, entry: &Value) -> Result<Edit, Re
     )
 }
 
-/// What a text says is done.
-fn change_named(word: &str) -> Option<Change>
+/// What a text says is done, none where it says nothing that is.
+pub fn change_named(word: &str) -> Option<Change>
     ensures { result ≡ change_named word.now }
 {
     value_of_word(

@@ -8,7 +8,7 @@ mod lists;
 mod outcome;
 
 pub use arrangement::{read_arrangement, read_trades_on};
-pub use edits::read_edits;
+pub use edits::{ALL_TRADES, Change, change_named, read_edits};
 pub use laws::{
     arrangements_have_their_entries, edits_have_their_entries, outcomes_have_their_entries,
 };

@@ -42,7 +42,7 @@ pub record AreNumbersOf (head : UnitTrades) (kind : EntryNumbers) (numbers : Lis
   pub counted : length numbers ≡ length head.trades
   pub each : (t : ℕ) → t < length head.trades → IsNumberOf head kind t (get_or numbers t (pos 0))
 
-units_lead : (units : ℕ) (place : List PlaceStep) (value : Data)
+pub units_lead : (units : ℕ) (place : List PlaceStep) (value : Data)
     → Leads (λ z. unsigned_abs z ≤ units) (units_within units place value)
 unfolding units_within
 units_lead units place value =
@@ -58,7 +58,7 @@ number_lead : (head : UnitTrades) (kind : EntryNumbers) (t : ℕ) (place : List 
 number_lead head Units t place value = units_lead (trade_at head.trades t).units place value
 number_lead head Prices t place value = number_leads most_unit_price place (Some value)
 
-units_stop : (units : ℕ) (place : List PlaceStep) → IsPlainPlace place → (value : Data)
+pub units_stop : (units : ℕ) (place : List PlaceStep) → IsPlainPlace place → (value : Data)
     → StopsPlainly (units_within units place value)
 unfolding units_within
 units_stop units place plain value =

@@ -1,6 +1,6 @@
 //! Reads lists of entries, each of which names a trade and gives a number to it.
 
-ghost use Rattle.std.specs.Prelude.{◌≡◌, ◌<◌, ◌≤◌, length, IfOk};
+ghost use Rattle.std.specs.Prelude.{◌≡◌, ◌<◌, ◌≤◌, length, unsigned_abs, IfOk};
 ghost use Rattle.serde_json.specs.View.{view, items_view};
 ghost use Rattle.tn_counts.specs.Widths.{most_unit_trades};
 ghost use Rattle.tn_read_parts.specs.Lists.{first_without, unless_missing};
@@ -40,13 +40,14 @@ fn place_of(numbers: EntryNumbers) -> [PlaceStep; 2]
 
 /// So many units of a trade that has some; the faults are, in this order, no whole number, and one below 0 or above these.
 #[tactic(auto, unfolding(crate::specs::Entries::units_within))]
-fn units_within(
+pub(crate) fn units_within(
     alloc: Global,
     units: u32,
     value: &Value,
     place: &[PlaceStep],
 ) -> Result<i128, ReadError>
     ensures gives { Gives (λ z. z) result (units_within units place.now (view value.now)) }
+    ensures within { IfOk result (λ z. unsigned_abs z ≤ units) }
 {
     let number = whole(alloc, Some(value), place)?;
     let within = 0 <= number && number.unsigned_abs() <= u64::from(units);

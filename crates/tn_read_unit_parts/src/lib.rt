@@ -2,7 +2,9 @@
 #![tactic(auto)]
 
 mod arrangement;
+mod edits;
 mod entries;
 
 pub use arrangement::{UnitArrangement, read_counts_on, read_unit_arrangement};
+pub use edits::read_unit_edits;
 pub use entries::EntryNumbers;
