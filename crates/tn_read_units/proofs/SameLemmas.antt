@@ -17,9 +17,9 @@ use Rattle.tn_read_units.specs.Laws.{HasItsWorths, MarketsSayTheirDocuments}
 use Rattle.tn_read_units.specs.Worths.{written_firms}
 
 -- as many firms, and each has the same worths as its counterpart
-record AreAlike (trades : List UnitTrade) (xs ys : List CountFirm) : Type 0 where
-  count : length xs ≡ length ys
-  worths : (f : ℕ) (one other : CountFirm) → slice_get xs f ≡ Some one → slice_get ys f ≡ Some other
+pub record AreAlike (trades : List UnitTrade) (xs ys : List CountFirm) : Type 0 where
+  pub count : length xs ≡ length ys
+  pub worths : (f : ℕ) (one other : CountFirm) → slice_get xs f ≡ Some one → slice_get ys f ≡ Some other
       → (counts : ℕ → ℕ) → AreCounts trades counts → one.worth counts ≡ other.worth counts
 
 alike_back : (trades : List UnitTrade) (xs ys : List CountFirm) → AreAlike trades xs ys → AreAlike trades ys xs
@@ -44,7 +44,7 @@ best_alike trades scale prices f one other counts value same best = record {
     utility others within =
         ap (option_map (λ (worth : ℤ). scale *ℤ worth +ℤ payments trades prices f others)) (same others within)
 
-equilibria_alike : (xs ys : List CountFirm) (trades : List UnitTrade) → AreAlike trades xs ys → (scale : ℤ) (counts : ℕ
+pub equilibria_alike : (xs ys : List CountFirm) (trades : List UnitTrade) → AreAlike trades xs ys → (scale : ℤ) (counts : ℕ
     → ℕ)
     (prices : ℕ → ℤ) → IsEquilibriumByCounts xs trades scale counts prices
     → IsEquilibriumByCounts ys trades scale counts prices
@@ -54,7 +54,7 @@ equilibria_alike xs ys trades alike scale counts prices holds f firm is =
     let best = holds f one.0 one.1 in
     (best.0, best_alike trades scale prices f one.0 firm counts best.0 (alike.worths f one.0 firm one.1 is) best.1)
 
-surplus_alike : (trades : List UnitTrade) (xs ys : List CountFirm) → AreAlike trades xs ys → (counts : ℕ → ℕ)
+pub surplus_alike : (trades : List UnitTrade) (xs ys : List CountFirm) → AreAlike trades xs ys → (counts : ℕ → ℕ)
     → AreCounts trades counts → count_surplus xs counts ≡ count_surplus ys counts
 surplus_alike trades [] [] alike counts within = refl
 surplus_alike trades [] (y ∷ ys) alike counts within = absurd (omega (arith, alike.count))

@@ -1,19 +1,19 @@
 -- A bundle by counts keeps the rules of bundles with units.
-use Rattle.std.proofs.Common.{◌≡◌, ◌≢◌, ℕ, suc, ◌+◌, ◌<◌, ◌≤◌, Bool, true, false, cond, ◌==◌, if◌then◌else◌, List, [], ◌∷◌, ◌++◌, length, map, get_or, refl, sym, ap, ap₂, ◌∙◌, subst, arith, inl, inr}
+use Rattle.std.proofs.Common.{◌≡◌, ◌≢◌, ℕ, ◌+◌, ◌<◌, ◌≤◌, Bool, true, false, cond, ◌==◌, if◌then◌else◌, List, [], ◌∷◌, ◌++◌, length, map, refl, sym, ap, ap₂, ◌∙◌, arith, inl, inr}
 use Rattle.std.specs.Prelude.{nat_lt, All}
 use Rattle.std.specs.List.{filter, range_with_len}
 use Rattle.std.specs.List.Sorted.{IsStrictlyIncreasing}
-use Rattle.std.proofs.lemmas.Bool.{cases_eq, eq-eqb, ltb-true, ne_eqb}
+use Rattle.std.proofs.lemmas.Bool.{cases_eq, ltb-true, ne_eqb}
 use Rattle.std.proofs.lemmas.List.{ext_get_or}
-use Rattle.std.proofs.lemmas.List.Elements.{All-filter, All-from_get_or, All-map, All-weaker, filter_passes}
-use Rattle.std.proofs.lemmas.List.FromFn.{filter_of_map_range_with_len_more, get_or-map-range_with_len, get_or-range_with_len, length-map-range_with_len, length-range_with_len}
-use Rattle.std.proofs.lemmas.List.Kept.{IsStrictlyIncreasing-filter}
-use Rattle.tn_answer.specs.Kept.{IsUnitBundle, IsWithinEntry}
-use Rattle.tn_counts.specs.Counts.{AreCounts, trade_at}
+use Rattle.std.proofs.lemmas.List.Elements.{All-weaker, filter_passes}
+use Rattle.std.proofs.lemmas.List.FromFn.{filter_of_map_range_with_len_more, get_or-map-range_with_len, length-map-range_with_len}
+use Rattle.tn_answer.specs.Kept.{IsUnitBundle}
+use Rattle.tn_counts.specs.Counts.{trade_at}
 use Rattle.tn_counts.specs.Outcomes.{HasEnd}
 use Rattle.tn_counts.specs.declared.trade.UnitTrade.{UnitTrade}
 use Rattle.tn_said.specs.declared.units.TradeUnits.{TradeUnits}
 use Rattle.tn_unit_answers.specs.Bundles.{entry_at, unit_bundle, units_to}
+use Rattle.tn_unit_answers.proofs.ListedLemmas.{numbers_ascend, of_each}
 
 abbrev pub has_some : TradeUnits → Bool
 has_some entry = nat_lt 0 entry.units
@@ -71,30 +71,19 @@ bundle_more trades f counts t before after units made more is =
 
 -- ---- what each entry of a bundle is
 
-range_below : (n : ℕ) → All (λ t. t < n) (range_with_len 0 n)
-range_below n = All-from_get_or (λ t. t < n) (range_with_len 0 n) 0 (λ t inside.
-    let sized = length-range_with_len 0 n in
-    let below : t < n = omega (arith, inside, sized) in
-    let read = get_or-range_with_len 0 n t 0 below in
-    omega (arith, below, read))
-
 module _ (trades : List UnitTrade) (f : ℕ) (counts : ℕ → ℕ) where
-  of_each : (P : TradeUnits → Type 0) → ((t : ℕ) → t < length trades → P (entry_at trades f counts t))
+  each_of : (P : TradeUnits → Type 0) → ((t : ℕ) → t < length trades → P (entry_at trades f counts t))
       → All P (unit_bundle trades f counts)
-  of_each P each =
-      All-filter has_some P (map (entry_at trades f counts) (range_with_len 0 (length trades)))
-      (All-map P (entry_at trades f counts) (range_with_len 0 (length trades))
-      (All-weaker (λ t. t < length trades) (λ t. P (entry_at trades f counts t)) each
-      (range_with_len 0 (length trades)) (range_below (length trades))))
+  each_of = of_each has_some (entry_at trades f counts) (length trades)
 
   -- it is of trades that there are
   pub bundle_known : All (λ entry. entry.trade < length trades) (unit_bundle trades f counts)
-  bundle_known = of_each (λ entry. entry.trade < length trades) (λ t below. below)
+  bundle_known = each_of (λ entry. entry.trade < length trades) (λ t below. below)
 
   -- of each it has no more units than go
   pub bundle_few : (limit : ℕ) → ((t : ℕ) → t < length trades → counts t < limit)
       → All (λ entry. entry.units < limit) (unit_bundle trades f counts)
-  bundle_few limit few = of_each (λ entry. entry.units < limit) (λ t below. at_most t (few t below))
+  bundle_few limit few = each_of (λ entry. entry.units < limit) (λ t below. at_most t (few t below))
     where
       at_most : (t : ℕ) → counts t < limit → units_to f (trade_at trades t) (counts t) < limit
       at_most t below = by (f == (trade_at trades t).seller) (f == (trade_at trades t).buyer)
@@ -109,35 +98,9 @@ module _ (trades : List UnitTrade) (f : ℕ) (counts : ℕ → ℕ) where
       (λ entry some. ltb-true 0 entry.units some) (unit_bundle trades f counts)
       (filter_passes has_some (map (entry_at trades f counts) (range_with_len 0 (length trades))))
 
-  -- its trades are those of all that pass
-  trades_are : (ts : List ℕ) → map (λ entry. entry.trade) (filter has_some (map (entry_at trades f counts) ts))
-      ≡ filter (λ t. has_some (entry_at trades f counts t)) ts
-  trades_are [] = refl
-  trades_are (t ∷ ts) = by (trades_are ts) (has_some (entry_at trades f counts t))
-    where
-      rest : List TradeUnits
-      rest = filter has_some (map (entry_at trades f counts) ts)
-
-      others : List ℕ
-      others = filter (λ t. has_some (entry_at trades f counts t)) ts
-
-      by : map (λ entry. entry.trade) rest ≡ others → (b : Bool)
-          → map (λ entry. entry.trade) (cond b (entry_at trades f counts t ∷ rest) rest) ≡ cond b (t ∷ others) others
-      by same true = ap (λ (list : List ℕ). t ∷ list) same
-      by same false = same
-
   bundle_ascends : IsStrictlyIncreasing (map (λ entry. entry.trade) (unit_bundle trades f counts))
   bundle_ascends =
-      subst IsStrictlyIncreasing (sym (trades_are (range_with_len 0 (length trades))))
-      (IsStrictlyIncreasing-filter (λ t. has_some (entry_at trades f counts t)) (range_with_len 0 (length trades))
-      range_up)
-    where
-      range_up : IsStrictlyIncreasing (range_with_len 0 (length trades))
-      range_up k inside =
-          let sized = length-range_with_len 0 (length trades) in
-          let one = get_or-range_with_len 0 (length trades) k 0 (omega (arith, inside, sized)) in
-          let next = get_or-range_with_len 0 (length trades) (k + 1) 0 (omega (arith, inside, sized)) in
-          omega (arith, one, next)
+      numbers_ascend has_some (entry_at trades f counts) (λ entry. entry.trade) (λ t. refl) (length trades)
 
   pub bundle_is : IsUnitBundle (unit_bundle trades f counts)
   bundle_is = record { ascending = bundle_ascends; some = bundle_some }

@@ -5,7 +5,12 @@ pub mod StepLemmas
 pub mod RangedLemmas
 pub mod SupportedLemmas
 pub mod KeptLemmas
+pub mod ListedLemmas
 pub mod BundleLemmas
+pub mod EditedLemmas
+pub mod UsableLemmas
+pub mod StateLemmas
+pub mod StandingLemmas
 pub mod JudgedLemmas
 pub mod CheckLemmas
 pub mod FirmLemmas

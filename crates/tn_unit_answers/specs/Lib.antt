@@ -8,3 +8,5 @@ pub mod Bundles
 pub mod Judged
 pub mod Check
 pub mod Firms
+pub mod Session
+pub mod Standing

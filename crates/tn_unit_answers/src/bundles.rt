@@ -24,7 +24,11 @@ fn units_to(firm: u32, trade: UnitTrade, sold: u32, bought: u32) -> u32
 }
 
 /// Puts a trade with its units to a bundle, where there are some.
-fn add_units(bundle: &mut Vec<TradeUnits>, trade: u32, units: u32) -> Result<(), OutOfMemory>
+pub(crate) fn add_units(
+    bundle: &mut Vec<TradeUnits>,
+    trade: u32,
+    units: u32,
+) -> Result<(), OutOfMemory>
     ensures { OnOk result (bundle.new.items
         ≡ bundle.old.items ++ cond (nat_lt 0 units) (record { trade = trade; units = units } ∷ []) []) }
 {
