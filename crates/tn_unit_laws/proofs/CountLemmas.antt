@@ -1,0 +1,176 @@
+-- How many numbers pass a test, and the twins of each trade.
+use Rattle.std.proofs.Common.{◌≡◌, ℕ, zero, suc, ◌+◌, ◌-◌, ◌<◌, ◌≤◌, Bool, true, false, ◌==◌, ◌&&◌, nat_lt, if◌then◌else◌, List, [], ◌∷◌, length, ◌⊎◌, inl, inr, refl, sym, ap, ◌∙◌, subst, arith}
+use Rattle.std.proofs.lemmas.Bool.{cases_eq, cases_lt, eq-eqb, le-ltb, lt-ltb, ne_eqb}
+use Rattle.tn_counts.specs.Counts.{trade_at}
+use Rattle.tn_counts.specs.declared.trade.UnitTrade.{UnitTrade}
+use Rattle.tn_unit_laws.specs.Units.{count_below, trade_of, unit_count}
+
+-- 1 where a test passes
+abbrev pub one : Bool → ℕ
+one b = if b then 1 else 0
+
+pub count-same : (f g : ℕ → Bool) (n : ℕ) → ((k : ℕ) → k < n → f k ≡ g k) → count_below f n ≡ count_below g n
+unfolding count_below
+count-same f g zero same = refl
+count-same f g (suc n) same =
+    let before : count_below f n ≡ count_below g n = count-same f g n (λ k below. same k (omega (arith, below))) in
+    let here : one (f n) ≡ one (g n) = ap one (same n (omega arith)) in
+    omega (arith, before, here)
+
+pub count-none : (f : ℕ → Bool) (n : ℕ) → ((k : ℕ) → k < n → f k ≡ false) → count_below f n ≡ 0
+unfolding count_below
+count-none f zero none = refl
+count-none f (suc n) none =
+    let before : count_below f n ≡ 0 = count-none f n (λ k below. none k (omega (arith, below))) in
+    let here : one (f n) ≡ 0 = ap one (none n (omega arith)) in
+    omega (arith, before, here)
+
+pub count-all : (f : ℕ → Bool) (n : ℕ) → ((k : ℕ) → k < n → f k ≡ true) → count_below f n ≡ n
+unfolding count_below
+count-all f zero all = refl
+count-all f (suc n) all =
+    let before : count_below f n ≡ n = count-all f n (λ k below. all k (omega (arith, below))) in
+    let here : one (f n) ≡ 1 = ap one (all n (omega arith)) in
+    omega (arith, before, here)
+
+-- where one test passes, another does
+pub count-most : (f g : ℕ → Bool) (n : ℕ) → ((k : ℕ) → k < n → f k ≡ true → g k ≡ true)
+    → count_below f n ≤ count_below g n
+unfolding count_below
+count-most f g zero most = omega arith
+count-most f g (suc n) most =
+    let before : count_below f n ≤ count_below g n = count-most f g n (λ k below. most k (omega (arith, below))) in
+    let here : one (f n) ≤ one (g n) = by (f n) (g n) (most n (omega arith)) in
+    omega (arith, before, here)
+  where
+    by : (x y : Bool) → (x ≡ true → y ≡ true) → one x ≤ one y
+    by true y passes = subst (λ (b : Bool). 1 ≤ one b) (sym (passes refl)) (omega arith)
+    by false y passes = omega arith
+
+-- so many numbers, and then the others
+pub count-split : (f : ℕ → Bool) (m n : ℕ) → count_below f (m + n) ≡ count_below f m + count_below (λ k. f (m + k)) n
+unfolding count_below
+count-split f m zero = let none : m + 0 ≡ m = omega arith in ap (count_below f) none ∙ omega arith
+count-split f m (suc n) =
+    let before = count-split f m n in
+    let next : m + suc n ≡ suc (m + n) = omega arith in
+    let same : count_below f (m + suc n) ≡ count_below f (m + n) + one (f (m + n)) = ap (count_below f) next in
+    omega (arith, same, before)
+
+-- ---- the first numbers of each kind
+
+-- whichever is less
+abbrev pub IsLess : ℕ → ℕ → ℕ → Type 0
+IsLess a b least = ((a ≤ b) × (least ≡ a)) ⊎ ((b ≤ a) × (least ≡ b))
+
+-- of the numbers of a kind below n the first so many, or all if there are fewer
+pub count-first : (kind : ℕ → ℕ) (most : ℕ → ℕ) (t n : ℕ)
+    → IsLess (count_below (λ u. t == kind u) n) (most t)
+    (count_below (λ u. nat_lt (count_below (λ v. kind u == kind v) u) (most (kind u)) && t == kind u) n)
+unfolding count_below
+count-first kind most t zero = inl (omega arith, refl)
+count-first kind most t (suc n) = elim (cases_eq t (kind n)) [
+  | inl same ↦
+      let seen : one (t == kind n) ≡ 1 = ap one (eq-eqb t (kind n) same) in
+      let rank : count_below (λ v. kind n == kind v) n ≡ count_below (λ v. t == kind v) n =
+      ap (λ (s : ℕ). count_below (λ v. s == kind v) n) (sym same) in
+      elim (cases_lt (count_below (λ v. t == kind v) n) (most t)) [
+        | inl less ↦
+            let there : nat_lt (count_below (λ v. kind n == kind v) n) (most (kind n)) ≡ true =
+            lt-ltb (count_below (λ v. kind n == kind v) n) (most (kind n))
+            (let limit = ap most same in omega (arith, rank, less, limit)) in
+            let taken : one (nat_lt (count_below (λ v. kind n == kind v) n) (most (kind n)) && t == kind n) ≡ 1 =
+            ap (λ (b : Bool). one (b && t == kind n)) there ∙ seen in
+            elim (count-first kind most t n) [
+              | inl all ↦ let few = all.0 in let is = all.1 in
+                  inl (omega (arith, less, seen), omega (arith, is, taken, seen))
+              | inr full ↦ let many = full.0 in absurd (omega (arith, many, less))
+            ]
+        | inr many ↦
+            let there : nat_lt (count_below (λ v. kind n == kind v) n) (most (kind n)) ≡ false =
+            le-ltb (count_below (λ v. kind n == kind v) n) (most (kind n))
+            (let limit = ap most same in omega (arith, rank, many, limit)) in
+            let taken : one (nat_lt (count_below (λ v. kind n == kind v) n) (most (kind n)) && t == kind n) ≡ 0 =
+            ap (λ (b : Bool). one (b && t == kind n)) there in
+            elim (count-first kind most t n) [
+              | inl all ↦ let few = all.0 in let is = all.1 in
+                  inr (omega (arith, many, seen), omega (arith, is, taken, few, many))
+              | inr full ↦ let is = full.1 in inr (omega (arith, many, seen), omega (arith, is, taken))
+            ]
+      ]
+  | inr other ↦
+      let seen : one (t == kind n) ≡ 0 = ap one (ne_eqb t (kind n) other) in
+      let taken : one (nat_lt (count_below (λ v. kind n == kind v) n) (most (kind n)) && t == kind n) ≡ 0 =
+      none (nat_lt (count_below (λ v. kind n == kind v) n) (most (kind n))) (t == kind n) (ne_eqb t (kind n) other) in
+      elim (count-first kind most t n) [
+        | inl all ↦ let few = all.0 in let is = all.1 in
+            inl (omega (arith, few, seen), omega (arith, is, taken, seen))
+        | inr full ↦ let many = full.0 in let is = full.1 in
+            inr (omega (arith, many, seen), omega (arith, is, taken))
+      ]
+]
+  where
+    none : (x y : Bool) → y ≡ false → one (x && y) ≡ 0
+    none true y e = ap one e
+    none false y e = refl
+
+-- ---- the twins of a trade
+
+trade_of-first : (trade : UnitTrade) (trades : List UnitTrade) (u : ℕ) → u < trade.units
+    → trade_of (trade ∷ trades) u ≡ 0
+unfolding trade_of
+trade_of-first trade trades u below =
+    ap (λ (b : Bool). if b then 0 else suc (trade_of trades (u - trade.units))) (lt-ltb u trade.units below)
+
+trade_of-rest : (trade : UnitTrade) (trades : List UnitTrade) (u : ℕ)
+    → trade_of (trade ∷ trades) (trade.units + u) ≡ suc (trade_of trades u)
+unfolding trade_of
+trade_of-rest trade trades u =
+    let back : trade.units + u - trade.units ≡ u = omega arith in
+    ap (λ (b : Bool). if b then 0 else suc (trade_of trades (trade.units + u - trade.units)))
+    (le-ltb (trade.units + u) trade.units (omega arith)) ∙ ap (λ (k : ℕ). suc (trade_of trades k)) back
+
+-- each unit trade is a twin of a trade
+pub trade_of-within : (trades : List UnitTrade) (u : ℕ) → u < unit_count trades → trade_of trades u < length trades
+unfolding unit_count
+trade_of-within [] u below = absurd (omega (arith, below))
+trade_of-within (trade ∷ trades) u below = elim (cases_lt u trade.units) [
+  | inl first ↦ let here = trade_of-first trade trades u first in omega (arith, here)
+  | inr later ↦
+      let rest = trade_of-within trades (u - trade.units) (omega (arith, below, later)) in
+      let place : trade.units + (u - trade.units) ≡ u = omega (arith, later) in
+      let here : trade_of (trade ∷ trades) u ≡ suc (trade_of trades (u - trade.units)) =
+      ap (trade_of (trade ∷ trades)) (sym place) ∙ trade_of-rest trade trades (u - trade.units) in
+      omega (arith, rest, here)
+]
+
+-- a trade has as many twins as it has units
+pub count-twins : (trades : List UnitTrade) (t : ℕ)
+    → count_below (λ u. t == trade_of trades u) (unit_count trades) ≡ (trade_at trades t).units
+unfolding count_below unit_count
+count-twins [] t = refl
+count-twins (trade ∷ trades) zero =
+    let parts = count-split (λ u. 0 == trade_of (trade ∷ trades) u) trade.units (unit_count trades) in
+    let first = count-all (λ u. 0 == trade_of (trade ∷ trades) u) trade.units
+    (λ u below. eq-eqb 0 (trade_of (trade ∷ trades) u) (sym (trade_of-first trade trades u below))) in
+    let rest = count-none (λ u. 0 == trade_of (trade ∷ trades) (trade.units + u)) (unit_count trades)
+    (λ u below. ne_eqb 0 (trade_of (trade ∷ trades) (trade.units + u))
+    (λ e. let next = trade_of-rest trade trades u in omega (arith, next, e))) in
+    omega (arith, parts, first, rest)
+count-twins (trade ∷ trades) (suc t) =
+    let parts = count-split (λ u. suc t == trade_of (trade ∷ trades) u) trade.units (unit_count trades) in
+    let first = count-none (λ u. suc t == trade_of (trade ∷ trades) u) trade.units
+    (λ u below. ne_eqb (suc t) (trade_of (trade ∷ trades) u)
+    (λ e. let here = trade_of-first trade trades u below in omega (arith, here, e))) in
+    let rest = count-same (λ u. suc t == trade_of (trade ∷ trades) (trade.units + u)) (λ u. t == trade_of trades u)
+    (unit_count trades) (λ u below. later u) in
+    let twins = count-twins trades t in
+    omega (arith, parts, first, rest, twins)
+  where
+    later : (u : ℕ) → (suc t == trade_of (trade ∷ trades) (trade.units + u)) ≡ (t == trade_of trades u)
+    later u = let next = trade_of-rest trade trades u in elim (cases_eq t (trade_of trades u)) [
+      | inl same ↦ eq-eqb (suc t) (trade_of (trade ∷ trades) (trade.units + u)) (omega (arith, next, same))
+          ∙ sym (eq-eqb t (trade_of trades u) same)
+      | inr other ↦ ne_eqb (suc t) (trade_of (trade ∷ trades) (trade.units + u))
+          (λ e. other (omega (arith, next, e))) ∙ sym (ne_eqb t (trade_of trades u) other)
+    ]

@@ -1,0 +1,116 @@
+-- Laws of the unit network, each as one statement over all firms and trades.
+use Rattle.std.specs.Prelude.{◌≡◌, ℕ, ◌<◌, true, false, ℤ, pos, ◌≤ℤ◌, ◌<ℤ◌, ◌↔◌, List, [], length, slice_get, Some}
+use Rattle.tn_base.specs.Sets.{has}
+use Rattle.tn_links.specs.declared.link.Link.{Link}
+use Rattle.tn_links.specs.Flows.{IsKeptFlow}
+use Rattle.tn_model.specs.Choices.{IsStable, contracts_of}
+use Rattle.tn_model.specs.Network.{IsNetwork}
+use Rattle.tn_market.specs.Equilibrium.{IsEfficient, IsEquilibrium, surplus_of}
+use Rattle.tn_counts.specs.Counts.{AreCounts, CountFirm, HaveFirms, IsEfficientByCounts, IsEquilibriumByCounts, count_surplus}
+use Rattle.tn_counts.specs.Laminar.{firms_of}
+use Rattle.tn_counts.specs.Laws.{IsGain}
+use Rattle.tn_counts.specs.Markets.{IsUnitMarket}
+use Rattle.tn_counts.specs.Tree.{AreLinksOf, sold_at}
+use Rattle.tn_counts.specs.declared.market.UnitMarket.{UnitMarket}
+use Rattle.tn_counts.specs.declared.trade.UnitTrade.{UnitTrade}
+use Rattle.tn_unit_laws.specs.Units.{DependsOnOwn, HaveTwoEnds, HasCounts, first_units, price_of_unit, trade_of, unit_count, unit_firms, unit_trades, units_on}
+
+-- firms and trades that fit together by counts make a network of unit firms and unit trades
+abbrev pub UnitsMakeNetworks : Type 0
+UnitsMakeNetworks = (firms : List CountFirm) (trades : List UnitTrade) → HaveFirms (length firms) trades
+    → HaveTwoEnds trades → IsNetwork (unit_firms trades firms) (unit_trades trades)
+
+-- firms and trades fit together by counts: the two ends of each trade are two firms, and a firm's worth is one of the
+-- units of its own trades
+pub record FitByCounts (firms : List CountFirm) (trades : List UnitTrade) : Type 0 where
+  pub ends : HaveFirms (length firms) trades
+  pub apart : HaveTwoEnds trades
+  pub own : (f : ℕ) (firm : CountFirm) → slice_get firms f ≡ Some firm → DependsOnOwn trades f firm
+
+-- the sets of unit trades have the counts within the units, and no others
+pub record CountsAreOfSets : Type 0 where
+  pub first : (trades : List UnitTrade) (counts : ℕ → ℕ) → AreCounts trades counts
+      → HasCounts trades (first_units trades counts) counts
+  pub within : (trades : List UnitTrade) (on : ℕ) → AreCounts trades (units_on trades on)
+
+-- at one price for the twins of each trade, counts are an equilibrium exactly where the first so many twins of each
+-- trade are one, and so any set with these counts
+pub record EquilibriaByCountsAreEquilibria : Type 0 where
+  pub first : (firms : List CountFirm) (trades : List UnitTrade) (scale : ℤ) (counts : ℕ → ℕ) (prices : ℕ → ℤ)
+      → FitByCounts firms trades → AreCounts trades counts
+      → IsEquilibriumByCounts firms trades scale counts prices
+      ↔ IsEquilibrium (unit_firms trades firms) (unit_trades trades) scale (first_units trades counts)
+      (price_of_unit trades prices)
+  pub any : (firms : List CountFirm) (trades : List UnitTrade) (scale : ℤ) (counts : ℕ → ℕ) (prices : ℕ → ℤ) (on : ℕ)
+      → FitByCounts firms trades → HasCounts trades on counts
+      → IsEquilibriumByCounts firms trades scale counts prices
+      ↔ IsEquilibrium (unit_firms trades firms) (unit_trades trades) scale on (price_of_unit trades prices)
+
+-- the surplus of a set of unit trades is that of its counts, and the set is efficient exactly where its counts are
+pub record EfficientByCounts : Type 0 where
+  pub surplus : (firms : List CountFirm) (trades : List UnitTrade) (on : ℕ) → FitByCounts firms trades
+      → surplus_of (unit_firms trades firms) (unit_trades trades) on ≡ count_surplus firms (units_on trades on)
+  pub efficient : (firms : List CountFirm) (trades : List UnitTrade) (on : ℕ) → FitByCounts firms trades
+      → IsEfficientByCounts firms trades (units_on trades on)
+      ↔ IsEfficient (unit_firms trades firms) (unit_trades trades) on
+
+-- the firms of a market within the limits fit together by counts
+abbrev pub MarketsFitByCounts : Type 0
+MarketsFitByCounts = (market : UnitMarket) → IsUnitMarket market → FitByCounts (firms_of market) market.trades.items
+
+-- the first so many twins of each trade are an equilibrium of the unit network at one price for twins, no set of its
+-- trades has more surplus, and no contracts, over any denominator, block its outcome
+pub record AreStableUnits (firms : List CountFirm) (trades : List UnitTrade) (scale : ℤ) (counts : ℕ → ℕ)
+    (prices : ℕ → ℤ) : Type 0 where
+  pub equilibrium : IsEquilibrium (unit_firms trades firms) (unit_trades trades) scale (first_units trades counts)
+      (price_of_unit trades prices)
+  pub efficient : IsEfficient (unit_firms trades firms) (unit_trades trades) (first_units trades counts)
+  pub stable : IsStable (unit_firms trades firms) (unit_trades trades) scale
+      (contracts_of (first_units trades counts) (price_of_unit trades prices) (length (unit_trades trades)))
+
+-- an equilibrium by counts, at any scale of at least 1, is one of the unit network, efficient and stable there
+abbrev pub EquilibriaByCountsAreStable : Type 0
+EquilibriaByCountsAreStable = (firms : List CountFirm) (trades : List UnitTrade) (scale : ℤ) (counts : ℕ → ℕ)
+    (prices : ℕ → ℤ) → FitByCounts firms trades → pos 1 ≤ℤ scale
+    → IsEquilibriumByCounts firms trades scale counts prices → AreStableUnits firms trades scale counts prices
+
+-- counts have more surplus than a set of unit trades
+pub record HaveMoreSurplus (firms : List CountFirm) (trades : List UnitTrade) (on : ℕ) (counts : ℕ → ℕ) : Type 0 where
+  pub within : AreCounts trades counts
+  pub less : ℤ
+  pub less_is : count_surplus firms (units_on trades on) ≡ Some less
+  pub more : ℤ
+  pub more_is : count_surplus firms counts ≡ Some more
+  pub above : less <ℤ more
+
+-- then no prices make the set an equilibrium of the unit network, the same for twins or not, at any scale of at least 1
+abbrev pub MoreSurplusBarsUnitPrices : Type 0
+MoreSurplusBarsUnitPrices = (firms : List CountFirm) (trades : List UnitTrade) (on : ℕ) (counts : ℕ → ℕ)
+    → FitByCounts firms trades → HaveMoreSurplus firms trades on counts
+    → (scale : ℤ) (prices : ℕ → ℤ) → pos 1 ≤ℤ scale
+    → IsEquilibrium (unit_firms trades firms) (unit_trades trades) scale on prices → ⊥
+
+-- so where the graph of a flow has a negative cycle, no prices of the unit network, the same for twins or not, make a
+-- set with the flow's counts an equilibrium
+abbrev pub NegativeCyclesBarUnitPrices : Type 0
+NegativeCyclesBarUnitPrices = (market : UnitMarket) (links : List Link) (levels : List ℕ) (lot first : ℕ) (rest : List ℕ)
+    (cost : ℤ) → IsUnitMarket market → AreLinksOf market [] links → IsKeptFlow links levels
+    → IsGain links levels lot first rest cost
+    → (on : ℕ) → HasCounts market.trades.items on (sold_at market levels)
+    → (scale : ℤ) (prices : ℕ → ℤ) → pos 1 ≤ℤ scale
+    → IsEquilibrium (unit_firms market.trades.items (firms_of market)) (unit_trades market.trades.items) scale on prices → ⊥
+
+-- of two twins in an equilibrium of the unit network one is on and one is off
+pub record AreTwinsApart (trades : List UnitTrade) (on a b : ℕ) : Type 0 where
+  pub first : a < unit_count trades
+  pub second : b < unit_count trades
+  pub twins : trade_of trades a ≡ trade_of trades b
+  pub is_on : has on a ≡ true
+  pub is_off : has on b ≡ false
+
+-- then their prices are the same
+abbrev pub TwinsCostTheSame : Type 0
+TwinsCostTheSame = (firms : List CountFirm) (trades : List UnitTrade) (scale : ℤ) (on a b : ℕ) (prices : ℕ → ℤ)
+    → FitByCounts firms trades
+    → IsEquilibrium (unit_firms trades firms) (unit_trades trades) scale on prices
+    → AreTwinsApart trades on a b → prices a ≡ prices b

@@ -1,0 +1,56 @@
+//! Laws of the unit network. Each is the contract of a function with an empty body: calling it proves nothing more, and
+//! costs nothing.
+
+ghost use Rattle.tn_unit_laws.specs.Laws.{CountsAreOfSets, EfficientByCounts, EquilibriaByCountsAreEquilibria, EquilibriaByCountsAreStable, MarketsFitByCounts, MoreSurplusBarsUnitPrices, NegativeCyclesBarUnitPrices, TwinsCostTheSame, UnitsMakeNetworks};
+
+/// Firms by counts, and trades of many units between two different ones of them, make a network in which each unit is a
+/// trade of its own: each firm has a position for each unit of its trades.
+pub fn units_make_networks()
+    ensures { UnitsMakeNetworks }
+{}
+
+/// Of each trade the first so many twins have the counts that they are taken by, where there are so many units; and no
+/// set has more twins of a trade than it has units.
+pub fn counts_are_of_sets()
+    ensures { CountsAreOfSets }
+{}
+
+/// An equilibrium by counts is one of the unit network, at one price for the twins of each trade, and no other counts
+/// are: what a bundle is worth and brings goes by how many twins of each trade are in it.
+pub fn equilibria_by_counts_are_equilibria()
+    ensures { EquilibriaByCountsAreEquilibria }
+{}
+
+/// A set of unit trades has the surplus of its counts, and the greatest one exactly where no counts have more.
+pub fn efficient_by_counts()
+    ensures { EfficientByCounts }
+{}
+
+/// The firms of a market of laminar firms fit its trades by counts: what a firm has depends on the units of its own
+/// trades alone.
+pub fn markets_fit_by_counts()
+    ensures { MarketsFitByCounts }
+{}
+
+/// An equilibrium by counts is efficient and stable in the unit network, in the words of networks without units: no set
+/// of unit trades has more surplus, and no contracts, over any denominator, block it (Hatfield, Kominers, Nichifor,
+/// Ostrovsky and Westkamp, 2013).
+pub fn equilibria_by_counts_are_stable()
+    ensures { EquilibriaByCountsAreStable }
+{}
+
+/// Where other counts have more surplus, no prices make a set of unit trades an equilibrium, the same for twins or not.
+pub fn more_surplus_bars_unit_prices()
+    ensures { MoreSurplusBarsUnitPrices }
+{}
+
+/// A negative cycle of the graph of a market's links bars all prices of the unit network, the same for twins or not.
+pub fn negative_cycles_bar_unit_prices()
+    ensures { NegativeCyclesBarUnitPrices }
+{}
+
+/// In an equilibrium of the unit network, whatever its firms' exchange, twins of which one is on and one is off have the
+/// same price: the seller and the buyer may each take one for the other.
+pub fn twins_cost_the_same()
+    ensures { TwinsCostTheSame }
+{}

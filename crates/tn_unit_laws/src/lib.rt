@@ -1,0 +1,12 @@
+//! Laws of trades of many units: what is said by counts is what is said of the unit network, in which each unit is a
+//! trade of its own. Nothing that runs stands on it, and no unit network is ever made.
+//! Each law is the contract of a function with an empty body: calling it proves nothing more, and costs nothing.
+#![tactic(auto)]
+
+mod laws;
+
+pub use laws::{
+    counts_are_of_sets, efficient_by_counts, equilibria_by_counts_are_equilibria,
+    equilibria_by_counts_are_stable, markets_fit_by_counts, more_surplus_bars_unit_prices,
+    negative_cycles_bar_unit_prices, twins_cost_the_same, units_make_networks,
+};
