@@ -7,3 +7,5 @@ pub mod EquilibriumLemmas
 pub mod MarketLemmas
 pub mod StableLemmas
 pub mod TwinLemmas
+pub mod AvoidLemmas
+pub mod BoundLemmas

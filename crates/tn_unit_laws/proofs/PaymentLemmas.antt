@@ -1,5 +1,5 @@
 -- With one price for the twins of a trade a bundle brings what its counts bring, so counts decide utilities.
-use Rattle.std.proofs.Common.{◌≡◌, ◌≢◌, ℕ, zero, suc, ◌+◌, ◌^◌, ◌<◌, ◌≤◌, Bool, true, false, ◌==◌, ◌&&◌, ◌||◌, nat_lt, if◌then◌else◌, List, length, slice_get, Option, Some, None, option_map, inl, inr, refl, sym, ap, ap₂, ◌∙◌, arith, ℤ, pos, neg_ℤ, ◌+ℤ◌, ◌-ℤ◌, ◌*ℤ◌}
+use Rattle.std.proofs.Common.{◌≡◌, ◌≢◌, ℕ, zero, suc, ◌+◌, ◌^◌, ◌<◌, ◌≤◌, Bool, true, false, ◌==◌, ◌&&◌, ◌||◌, nat_lt, if◌then◌else◌, List, length, slice_get, Option, Some, None, option_map, ◌⊎◌, inl, inr, refl, sym, ap, ap₂, ◌∙◌, arith, ℤ, pos, neg_ℤ, ◌+ℤ◌, ◌-ℤ◌, ◌*ℤ◌}
 use Rattle.std.proofs.lemmas.Bool.{and_parts, cases_Bool, eq-eqb, eqb-true, lt-ltb, ltb-true, ne_eqb, or_parts}
 use Rattle.std.proofs.lemmas.Int.{ints}
 use Rattle.std.proofs.lemmas.Option.{none-some, same_Some}
@@ -53,31 +53,37 @@ module _ (firms : List CountFirm) (trades : List UnitTrade) (fit : FitByCounts f
       let long = length-units trades (unit_count trades) in
       omega (arith, inside, long)
 
-  -- at each position stands a unit trade that the firm sells or buys, with its price
-  pub gets_is : (prices : ℕ → ℤ) (k : ℕ) → k < own_units trades f → gets_at trades f prices k
-      ≡ paid_to f (prices (own (unit_trades trades) f k))
-      (trade_at trades (trade_of trades (own (unit_trades trades) f k)))
-  gets_is prices k below = elim (cases_Bool (trade.seller == f && place_of trades trade.seller u == k)) [
+  -- at each position stands a unit trade that the firm sells, or one that it buys
+  pub side_at : (k : ℕ) → k < own_units trades f
+      → (((f == (trade_at trades (trade_of trades (own (unit_trades trades) f k))).seller) ≡ true)
+      × ((f == (trade_at trades (trade_of trades (own (unit_trades trades) f k))).buyer) ≡ false)
+      × (has (buys_of (sides_of (unit_trades trades) f)) k ≡ false))
+      ⊎ (((f == (trade_at trades (trade_of trades (own (unit_trades trades) f k))).seller) ≡ false)
+      × ((f == (trade_at trades (trade_of trades (own (unit_trades trades) f k))).buyer) ≡ true)
+      × (has (buys_of (sides_of (unit_trades trades) f)) k ≡ true))
+  side_at k below = elim (cases_Bool (trade.seller == f && place_of trades trade.seller u == k)) [
     | inl sells ↦
         let parts = and_parts (trade.seller == f) (place_of trades trade.seller u == k) sells in
         let sold = (fits_network firms trades fit).sold u (unit trades u) there in
-        let side = side_at trade.seller (place_of trades trade.seller u) (eqb-true trade.seller f parts.0)
+        let side = same_side trade.seller (place_of trades trade.seller u) (eqb-true trade.seller f parts.0)
         (eqb-true (place_of trades trade.seller u) k parts.1) sold.0 sold.1 in
-        ap (λ (b : Bool). if b then neg_ℤ price else price) (side ∙ sold.3)
-        ∙ seller_gets (f == trade.seller) (f == trade.buyer)
-        (eq-eqb f trade.seller (sym (eqb-true trade.seller f parts.0)))
-        (ne_eqb f trade.buyer (λ e. apart (eqb-true trade.seller f parts.0 ∙ e)))
+        inl (
+          eq-eqb f trade.seller (sym (eqb-true trade.seller f parts.0)),
+          ne_eqb f trade.buyer (λ e. apart (eqb-true trade.seller f parts.0 ∙ e)),
+          side ∙ sold.3,
+        )
     | inr other ↦
         let buys : (trade.buyer == f && place_of trades trade.buyer u == k) ≡ true =
         sym (ap (λ (b : Bool). b || (trade.buyer == f && place_of trades trade.buyer u == k)) other) ∙ stands in
         let parts = and_parts (trade.buyer == f) (place_of trades trade.buyer u == k) buys in
         let bought = (fits_network firms trades fit).bought u (unit trades u) there in
-        let side = side_at trade.buyer (place_of trades trade.buyer u) (eqb-true trade.buyer f parts.0)
+        let side = same_side trade.buyer (place_of trades trade.buyer u) (eqb-true trade.buyer f parts.0)
         (eqb-true (place_of trades trade.buyer u) k parts.1) bought.0 bought.1 in
-        ap (λ (b : Bool). if b then neg_ℤ price else price) (side ∙ bought.3)
-        ∙ buyer_gets (f == trade.seller) (f == trade.buyer)
-        (ne_eqb f trade.seller (λ e. apart (sym e ∙ sym (eqb-true trade.buyer f parts.0))))
-        (eq-eqb f trade.buyer (sym (eqb-true trade.buyer f parts.0)))
+        inr (
+          ne_eqb f trade.seller (λ e. apart (sym e ∙ sym (eqb-true trade.buyer f parts.0))),
+          eq-eqb f trade.buyer (sym (eqb-true trade.buyer f parts.0)),
+          side ∙ bought.3,
+        )
   ]
     where
       u : ℕ
@@ -85,9 +91,6 @@ module _ (firms : List CountFirm) (trades : List UnitTrade) (fit : FitByCounts f
 
       trade : UnitTrade
       trade = trade_at trades (trade_of trades u)
-
-      price : ℤ
-      price = prices u
 
       below_u : u < unit_count trades
       below_u = own_below k below
@@ -105,25 +108,29 @@ module _ (firms : List CountFirm) (trades : List UnitTrade) (fit : FitByCounts f
           ap (λ (e : Ends). stands_at e f k)
           (same_Some (unit trades u) found.trade (sym there ∙ found.is)) ∙ found.stands
 
-      side_at : (g i : ℕ) → g ≡ f → i ≡ k → (other : Firm) → slice_get (unit_firms trades firms) g ≡ Some other
+      same_side : (g i : ℕ) → g ≡ f → i ≡ k → (other : Firm) → slice_get (unit_firms trades firms) g ≡ Some other
           → has (buys_of (sides_of (unit_trades trades) f)) k ≡ has other.buys i
-      side_at g i same at other other_is =
+      same_side g i same at other other_is =
           let one_is : unit_firm trades f firm ≡ other =
           same_Some (unit_firm trades f firm) other
           (sym unit_is ∙ ap (slice_get (unit_firms trades firms)) (sym same) ∙ other_is) in
           ap₂ (λ (x : Firm) (j : ℕ). has x.buys j) one_is (sym at)
 
-      seller_gets : (sells buys : Bool) → sells ≡ true → buys ≡ false
-          → price ≡ (if sells then price else pos 0) -ℤ (if buys then price else pos 0)
-      seller_gets sells buys yes_sells no_buys =
-          (let none : price ≡ price -ℤ pos 0 = omega (arith, ints) in none)
-          ∙ sym (ap₂ (λ (a b : Bool). (if a then price else pos 0) -ℤ (if b then price else pos 0)) yes_sells no_buys)
-
-      buyer_gets : (sells buys : Bool) → sells ≡ false → buys ≡ true
-          → neg_ℤ price ≡ (if sells then price else pos 0) -ℤ (if buys then price else pos 0)
-      buyer_gets sells buys no_sells yes_buys =
-          (let all : neg_ℤ price ≡ pos 0 -ℤ price = omega (arith, ints) in all)
-          ∙ sym (ap₂ (λ (a b : Bool). (if a then price else pos 0) -ℤ (if b then price else pos 0)) no_sells yes_buys)
+  -- so it gets its price, or pays it
+  pub gets_is : (prices : ℕ → ℤ) (k : ℕ) → k < own_units trades f → gets_at trades f prices k
+      ≡ paid_to f (prices (own (unit_trades trades) f k))
+      (trade_at trades (trade_of trades (own (unit_trades trades) f k)))
+  gets_is prices k below = elim (side_at k below) [
+    | inl sells ↦ ap (λ (b : Bool). if b then neg_ℤ price else price) sells.2
+        ∙ (let none : price ≡ price -ℤ pos 0 = omega (arith, ints) in none)
+        ∙ sym (ap₂ (λ (a b : Bool). (if a then price else pos 0) -ℤ (if b then price else pos 0)) sells.0 sells.1)
+    | inr buys ↦ ap (λ (b : Bool). if b then neg_ℤ price else price) buys.2
+        ∙ (let all : neg_ℤ price ≡ pos 0 -ℤ price = omega (arith, ints) in all)
+        ∙ sym (ap₂ (λ (a b : Bool). (if a then price else pos 0) -ℤ (if b then price else pos 0)) buys.0 buys.1)
+  ]
+    where
+      price : ℤ
+      price = prices (own (unit_trades trades) f k)
 
   -- at one price for twins a bundle brings what its counts bring
   module _ (prices : ℕ → ℤ) (x : ℕ) where

@@ -20,7 +20,7 @@ use Rattle.tn_unit_laws.proofs.PaymentLemmas.{gets_at, gets_is}
 
 -- ---- a count with one number more
 
-count-in : (g : ℕ → Bool) (x p n : ℕ) → p < n → has x p ≡ false
+pub count-in : (g : ℕ → Bool) (x p n : ℕ) → p < n → has x p ≡ false
     → count_below (λ k. has (toggle x p) k && g k) n ≡ count_below (λ k. has x k && g k) n + one (g p)
 unfolding count_below
 count-in g x p zero below off = absurd (omega (arith, below))

@@ -1,8 +1,9 @@
 -- Laws of the unit network, each as one statement over all firms and trades.
-use Rattle.std.specs.Prelude.{◌≡◌, ℕ, ◌<◌, true, false, ℤ, pos, ◌≤ℤ◌, ◌<ℤ◌, ◌↔◌, List, [], length, slice_get, Some}
+use Rattle.std.specs.Prelude.{◌≡◌, ◌≢◌, ℕ, suc, ◌<◌, true, false, ℤ, pos, neg_ℤ, ◌-ℤ◌, ◌*ℤ◌, ◌≤ℤ◌, ◌<ℤ◌, ◌↔◌, List, [], length, slice_get, Some}
 use Rattle.tn_base.specs.Sets.{has}
 use Rattle.tn_links.specs.declared.link.Link.{Link}
 use Rattle.tn_links.specs.Flows.{IsKeptFlow}
+use Rattle.tn_links.specs.Totals.{total}
 use Rattle.tn_model.specs.Choices.{IsStable, contracts_of}
 use Rattle.tn_model.specs.Network.{IsNetwork}
 use Rattle.tn_market.specs.Equilibrium.{IsEfficient, IsEquilibrium, surplus_of}
@@ -10,6 +11,7 @@ use Rattle.tn_counts.specs.Counts.{AreCounts, CountFirm, HaveFirms, IsEfficientB
 use Rattle.tn_counts.specs.Laminar.{firms_of}
 use Rattle.tn_counts.specs.Laws.{IsGain}
 use Rattle.tn_counts.specs.Markets.{IsUnitMarket}
+use Rattle.tn_counts.specs.Ranges.{apart_counts}
 use Rattle.tn_counts.specs.Tree.{AreLinksOf, sold_at}
 use Rattle.tn_counts.specs.declared.market.UnitMarket.{UnitMarket}
 use Rattle.tn_counts.specs.declared.trade.UnitTrade.{UnitTrade}
@@ -114,3 +116,38 @@ TwinsCostTheSame = (firms : List CountFirm) (trades : List UnitTrade) (scale : �
     → FitByCounts firms trades
     → IsEquilibrium (unit_firms trades firms) (unit_trades trades) scale on prices
     → AreTwinsApart trades on a b → prices a ≡ prices b
+
+-- where each firm sells and buys so many units, their worths sum to so much less than the surplus of counts
+pub record LoseApart (firms : List CountFirm) (trades : List UnitTrade) (counts sold bought : ℕ → ℕ) (cost : ℤ) : Type 0
+  where
+    pub sold_within : AreCounts trades sold
+    pub bought_within : AreCounts trades bought
+    pub surplus : ℤ
+    pub is : count_surplus firms counts ≡ Some surplus
+    pub worths : ℕ → ℤ
+    pub each : (f : ℕ) (firm : CountFirm) → slice_get firms f ≡ Some firm
+        → firm.worth (apart_counts trades sold bought f) ≡ Some (worths f)
+    pub sum : total worths (length firms) ≡ surplus -ℤ cost
+
+-- of trade t one unit more in the first counts than in the second, and as many of each other trade
+pub record HasOneMore (trades : List UnitTrade) (t : ℕ) (more fewer : ℕ → ℕ) : Type 0 where
+  pub here : more t ≡ suc (fewer t)
+  pub others : (k : ℕ) → k < length trades → k ≢ t → more k ≡ fewer k
+
+-- what firms lose together, where one unit of a trade is sold that isn't bought, bounds the prices of all its twins from
+-- above, in every equilibrium of the unit network, the same for twins or not; where one is bought that isn't sold, from
+-- below
+pub record LossesBoundUnitPrices : Type 0 where
+  pub above : (firms : List CountFirm) (trades : List UnitTrade) (counts sold bought : ℕ → ℕ) (cost : ℤ) (u : ℕ)
+      → FitByCounts firms trades → IsEfficientByCounts firms trades counts
+      → LoseApart firms trades counts sold bought cost → u < unit_count trades
+      → HasOneMore trades (trade_of trades u) sold bought
+      → (scale : ℤ) (on : ℕ) (prices : ℕ → ℤ) → pos 1 ≤ℤ scale
+      → IsEquilibrium (unit_firms trades firms) (unit_trades trades) scale on prices → prices u ≤ℤ (scale *ℤ cost)
+  pub below : (firms : List CountFirm) (trades : List UnitTrade) (counts sold bought : ℕ → ℕ) (cost : ℤ) (u : ℕ)
+      → FitByCounts firms trades → IsEfficientByCounts firms trades counts
+      → LoseApart firms trades counts sold bought cost → u < unit_count trades
+      → HasOneMore trades (trade_of trades u) bought sold
+      → (scale : ℤ) (on : ℕ) (prices : ℕ → ℤ) → pos 1 ≤ℤ scale
+      → IsEquilibrium (unit_firms trades firms) (unit_trades trades) scale on prices
+      → neg_ℤ (scale *ℤ cost) ≤ℤ prices u

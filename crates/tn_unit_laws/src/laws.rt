@@ -1,7 +1,7 @@
 //! Laws of the unit network. Each is the contract of a function with an empty body: calling it proves nothing more, and
 //! costs nothing.
 
-ghost use Rattle.tn_unit_laws.specs.Laws.{CountsAreOfSets, EfficientByCounts, EquilibriaByCountsAreEquilibria, EquilibriaByCountsAreStable, MarketsFitByCounts, MoreSurplusBarsUnitPrices, NegativeCyclesBarUnitPrices, TwinsCostTheSame, UnitsMakeNetworks};
+ghost use Rattle.tn_unit_laws.specs.Laws.{CountsAreOfSets, EfficientByCounts, EquilibriaByCountsAreEquilibria, EquilibriaByCountsAreStable, LossesBoundUnitPrices, MarketsFitByCounts, MoreSurplusBarsUnitPrices, NegativeCyclesBarUnitPrices, TwinsCostTheSame, UnitsMakeNetworks};
 
 /// Firms by counts, and trades of many units between two different ones of them, make a network in which each unit is a
 /// trade of its own: each firm has a position for each unit of its trades.
@@ -53,4 +53,11 @@ pub fn negative_cycles_bar_unit_prices()
 /// same price: the seller and the buyer may each take one for the other.
 pub fn twins_cost_the_same()
     ensures { TwinsCostTheSame }
+{}
+
+/// What firms lose together, where one unit of a trade is sold that isn't bought, is above the prices of all twins of the
+/// trade, in every equilibrium of the unit network; and where one is bought that isn't sold, the price of a twin and the
+/// loss together are at least nothing. Twins may have different prices there.
+pub fn losses_bound_unit_prices()
+    ensures { LossesBoundUnitPrices }
 {}
