@@ -1,10 +1,11 @@
 -- What is best by counts is best in the unit network, and what has most surplus by counts has most there.
-use Rattle.std.proofs.Common.{◌≡◌, ℕ, suc, ◌+◌, ◌^◌, ◌<◌, Bool, ◌==◌, ◌&&◌, nat_lt, if◌then◌else◌, List, [], ◌∷◌, length, slice_get, Option, Some, None, option_map, inl, inr, refl, sym, ap, ap₂, ◌∙◌, subst, arith, ℤ, ◌+ℤ◌}
+use Rattle.std.proofs.Common.{◌≡◌, ℕ, suc, ◌+◌, ◌^◌, ◌<◌, Bool, ◌==◌, ◌&&◌, nat_lt, if◌then◌else◌, List, [], ◌∷◌, length, slice_get, Option, Some, None, option_map, inl, inr, refl, sym, ap, ap₂, ◌∙◌, subst, arith, ℤ, ◌+ℤ◌, ◌*ℤ◌}
 use Rattle.std.specs.Prelude.{◌↔◌, option_and_then}
 use Rattle.std.proofs.lemmas.Bool.{and_parts, lt-ltb}
+use Rattle.std.proofs.lemmas.Option.{none-some}
 use Rattle.tn_base.specs.Firm.{Firm, IsBest}
 use Rattle.tn_base.specs.Options.{both}
-use Rattle.tn_base.specs.Sets.{has}
+use Rattle.tn_base.specs.Sets.{has, sum_over}
 use Rattle.tn_base.proofs.SetLemmas.{has-set_of, set_of_within}
 use Rattle.tn_model.specs.Network.{own, part}
 use Rattle.tn_market.specs.Equilibrium.{IsEfficient, IsEquilibrium, surplus_from, surplus_of, utility_at}
@@ -15,7 +16,7 @@ use Rattle.tn_unit_laws.specs.Units.{HasCounts, counts_of, first_units, own_unit
 use Rattle.tn_unit_laws.proofs.CountLemmas.{count-first, count-most, count-same, count-twins}
 use Rattle.tn_unit_laws.proofs.UnitLemmas.{comes_from, unit_firm_at}
 use Rattle.tn_unit_laws.proofs.BundleLemmas.{counts_of_part, counts_within}
-use Rattle.tn_unit_laws.proofs.PaymentLemmas.{bundle_below, same_utility, utility_is}
+use Rattle.tn_unit_laws.proofs.PaymentLemmas.{bundle_below, gets_at, same_utility, utility_is}
 
 -- ---- the counts of sets
 
@@ -196,3 +197,19 @@ efficient_is firms trades on fit = (
 
 pub efficient_is_by_counts : EfficientByCounts
 efficient_is_by_counts = record { surplus = surplus_of_counts; efficient = efficient_is }
+
+-- where counts are impossible for a firm, no prices make a set with these counts an equilibrium
+pub no_bundle : (firms : List CountFirm) (trades : List UnitTrade) → FitByCounts firms trades → (f : ℕ) (firm : CountFirm)
+    → slice_get firms f ≡ Some firm → (on : ℕ) (counts : ℕ → ℕ) → HasCounts trades on counts → firm.worth counts ≡ None
+    → (scale : ℤ) (prices : ℕ → ℤ)
+    → IsEquilibrium (unit_firms trades firms) (unit_trades trades) scale on prices → ⊥
+no_bundle firms trades fit f firm is on counts have none scale prices equal =
+    let best = equal f (unit_firm trades f firm) (unit_firm_at trades 0 firms f f firm (omega arith) is) in
+    let worth = own_worth firms trades fit on f firm is
+    ∙ fit.own f firm is (units_on trades on) counts (λ t below mine. have t below) ∙ none in
+    by (λ a. scale *ℤ a +ℤ sum_over (gets_at trades f prices) (own_units trades f)
+    (part (unit_trades trades) f (own_units trades f) on))
+    ((unit_firm trades f firm).worth (part (unit_trades trades) f (own_units trades f) on)) worth best.0 best.1.is
+  where
+    by : (g : ℤ → ℤ) (o : Option ℤ) → o ≡ None → (value : ℤ) → option_map g o ≡ Some value → ⊥
+    by g o no_worth value at = absurd (none-some value (sym (ap (option_map g) no_worth) ∙ at))

@@ -1,0 +1,28 @@
+//! Laws of the answers for documents whose trades have units. Each is the contract of a function with an empty body:
+//! calling it proves nothing more, and costs nothing.
+
+ghost use Rattle.tn_unit_run_laws.specs.Laws.{AnswersAreStableUnits, AnswersBarUnitPrices, DocumentsMakeUnitNetworks, RangesAreOfUnits};
+
+/// Every document that is read whose trades have units makes a network of unit trades and unit firms.
+pub fn documents_make_unit_networks()
+    ensures { DocumentsMakeUnitNetworks }
+{}
+
+/// The counts and prices that `solve` and `support` answer, and those that `check` calls an equilibrium, are one of the
+/// unit network: the first so many twins of each trade, at one price for twins, are an equilibrium there, no set of unit
+/// trades has more surplus, and no contracts, over any denominator, block it.
+pub fn answers_are_stable_units()
+    ensures { AnswersAreStableUnits }
+{}
+
+/// Where `support` answers a cycle, or a firm to which the counts are impossible, no prices of the unit network support a
+/// set with these counts, over any denominator, the same for twins or not.
+pub fn answers_bar_unit_prices()
+    ensures { AnswersBarUnitPrices }
+{}
+
+/// The lowest and the highest price that `range` answers of a trade are those of each of its twins over all equilibria
+/// of the unit network at scale 1, where twins may have different prices.
+pub fn ranges_are_of_units()
+    ensures { RangesAreOfUnits }
+{}
