@@ -9,3 +9,4 @@ pub mod StableLemmas
 pub mod TwinLemmas
 pub mod AvoidLemmas
 pub mod BoundLemmas
+pub mod OnePriceLemmas

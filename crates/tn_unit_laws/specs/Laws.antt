@@ -7,6 +7,7 @@ use Rattle.tn_links.specs.Totals.{total}
 use Rattle.tn_model.specs.Choices.{IsStable, contracts_of}
 use Rattle.tn_model.specs.Network.{IsNetwork}
 use Rattle.tn_market.specs.Equilibrium.{IsEfficient, IsEquilibrium, surplus_of}
+use Rattle.tn_network_laws.specs.Laws.{MeetExchange}
 use Rattle.tn_counts.specs.Counts.{AreCounts, CountFirm, HaveFirms, IsEfficientByCounts, IsEquilibriumByCounts, count_surplus}
 use Rattle.tn_counts.specs.Laminar.{firms_of}
 use Rattle.tn_counts.specs.Laws.{IsGain}
@@ -151,3 +152,32 @@ pub record LossesBoundUnitPrices : Type 0 where
       → (scale : ℤ) (on : ℕ) (prices : ℕ → ℤ) → pos 1 ≤ℤ scale
       → IsEquilibrium (unit_firms trades firms) (unit_trades trades) scale on prices
       → neg_ℤ (scale *ℤ cost) ≤ℤ prices u
+
+-- a number for each trade is the greatest price among its twins
+pub record AreGreatestOfTwins (trades : List UnitTrade) (prices ones : ℕ → ℤ) : Type 0 where
+  pub most : (u : ℕ) → u < unit_count trades → prices u ≤ℤ ones (trade_of trades u)
+  pub reached : (u : ℕ) → u < unit_count trades
+      → (v : ℕ) × (v < unit_count trades) × (trade_of trades v ≡ trade_of trades u) × (prices v ≡ ones (trade_of trades u))
+
+-- or the least
+pub record AreLeastOfTwins (trades : List UnitTrade) (prices ones : ℕ → ℤ) : Type 0 where
+  pub least : (u : ℕ) → u < unit_count trades → ones (trade_of trades u) ≤ℤ prices u
+  pub reached : (u : ℕ) → u < unit_count trades
+      → (v : ℕ) × (v < unit_count trades) × (trade_of trades v ≡ trade_of trades u) × (prices v ≡ ones (trade_of trades u))
+
+-- unit firms that meet exchange, and prices of unit trades at which a set is an equilibrium
+pub record HasUnitPrices (firms : List CountFirm) (trades : List UnitTrade) (scale : ℤ) (on : ℕ) (prices : ℕ → ℤ) : Type
+    0 where
+  pub fit : FitByCounts firms trades
+  pub exchange : MeetExchange (unit_firms trades firms)
+  pub from_one : pos 1 ≤ℤ scale
+  pub equilibrium : IsEquilibrium (unit_firms trades firms) (unit_trades trades) scale on prices
+
+-- then the greatest prices among each trade's twins are prices for all of them with the same set, and so are the least
+pub record OnePriceIsEnough : Type 0 where
+  pub greatest : (firms : List CountFirm) (trades : List UnitTrade) (scale : ℤ) (on : ℕ) (prices ones : ℕ → ℤ)
+      → HasUnitPrices firms trades scale on prices → AreGreatestOfTwins trades prices ones
+      → IsEquilibrium (unit_firms trades firms) (unit_trades trades) scale on (price_of_unit trades ones)
+  pub least : (firms : List CountFirm) (trades : List UnitTrade) (scale : ℤ) (on : ℕ) (prices ones : ℕ → ℤ)
+      → HasUnitPrices firms trades scale on prices → AreLeastOfTwins trades prices ones
+      → IsEquilibrium (unit_firms trades firms) (unit_trades trades) scale on (price_of_unit trades ones)

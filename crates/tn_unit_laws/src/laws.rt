@@ -1,7 +1,7 @@
 //! Laws of the unit network. Each is the contract of a function with an empty body: calling it proves nothing more, and
 //! costs nothing.
 
-ghost use Rattle.tn_unit_laws.specs.Laws.{CountsAreOfSets, EfficientByCounts, EquilibriaByCountsAreEquilibria, EquilibriaByCountsAreStable, LossesBoundUnitPrices, MarketsFitByCounts, MoreSurplusBarsUnitPrices, NegativeCyclesBarUnitPrices, TwinsCostTheSame, UnitsMakeNetworks};
+ghost use Rattle.tn_unit_laws.specs.Laws.{CountsAreOfSets, EfficientByCounts, EquilibriaByCountsAreEquilibria, EquilibriaByCountsAreStable, LossesBoundUnitPrices, MarketsFitByCounts, MoreSurplusBarsUnitPrices, NegativeCyclesBarUnitPrices, OnePriceIsEnough, TwinsCostTheSame, UnitsMakeNetworks};
 
 /// Firms by counts, and trades of many units between two different ones of them, make a network in which each unit is a
 /// trade of its own: each firm has a position for each unit of its trades.
@@ -60,4 +60,11 @@ pub fn twins_cost_the_same()
 /// loss together are at least nothing. Twins may have different prices there.
 pub fn losses_bound_unit_prices()
     ensures { LossesBoundUnitPrices }
+{}
+
+/// Where the unit firms meet the exchange property, one price for the twins of a trade is enough: the greatest price
+/// among its twins, for each trade, and the least as well, is a price for all of them with the same set. Without it
+/// neither need be: of two units that are wanted only together, at 1 and 9, the price may be 5 for both, but no 9.
+pub fn one_price_is_enough()
+    ensures { OnePriceIsEnough }
 {}
