@@ -11,7 +11,7 @@ use crate::problem::{Arc, Problem};
 use std::alloc::Global;
 use tn_base::OutOfMemory;
 use tn_cycle::Finder;
-use tn_links::{Link, Links, Step, are_plain, settle};
+use tn_links::{Link, Links, Step, are_plain, settle_near};
 
 /// A unit over an arc costs at most so much, in size.
 const MOST_EACH: i64 = 200_000_000_000;
@@ -78,10 +78,10 @@ fn settled(alloc: Global, nodes: u32, links: Vec<Link>) -> Result<Option<Vec<u32
         return Ok(None);
     }
     let links = Links::new(alloc, nodes, links)?;
-    let mut levels = links.idle(alloc)?;
+    let mut levels = links.begin(alloc)?;
     let mut finder = Finder::new(alloc, nodes)?;
     let mut before = Finder::new(alloc, nodes)?;
-    settle(&links, &mut levels, &mut finder, &mut before);
+    settle_near(&links, &mut levels, &mut finder, &mut before);
     Ok(Some(levels))
 }
 

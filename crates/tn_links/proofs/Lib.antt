@@ -11,3 +11,4 @@ pub mod LawLemmas
 pub mod GainLemmas
 pub mod SearchLemmas
 pub mod SizeLemmas
+pub mod BalanceLemmas

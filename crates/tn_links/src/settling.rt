@@ -1,16 +1,18 @@
 //! Flows of greatest gain.
 
-ghost use Rattle.std.specs.Prelude.{◌≡◌, true, false};
-ghost use Rattle.std.specs.Prelude.{◌<ℤ◌};
+ghost use Rattle.std.specs.Prelude.{◌≡◌, ◌<ℤ◌, true, false, IfOk};
 ghost use Rattle.tn_cycle.specs.Answers.{AreLabels};
 ghost use Rattle.tn_links.specs.Flows.{IsKeptFlow, total_gain};
 ghost use Rattle.tn_links.specs.Laws.{IsGreatest};
 ghost use Rattle.tn_links.specs.Lots.{link_arc};
 
+use crate::guess::guess;
 use crate::links::Links;
 use crate::push::push_round;
 use crate::searching::send_lots;
 use crate::walks::unit_labels;
+use std::alloc::Global;
+use tn_base::OutOfMemory;
 use tn_cycle::{Finder, Labels};
 
 /// Looks for labels that keep the graph with lots of one unit, and says whether there are some. Otherwise a unit is sent
@@ -59,4 +61,35 @@ pub fn settle(links: &Links, levels: &mut [u32], finder: &mut Finder, before: &m
 {
     send_lots(links, levels, finder, before);
     settle_units(links, levels, finder);
+}
+
+/// The same from a flow that may well be of greatest gain: labels are looked for first, and lots are sent only where
+/// there are none.
+pub fn settle_near(links: &Links, levels: &mut [u32], finder: &mut Finder, before: &mut Finder)
+    requires fits { finder.old.nodes ≡ links.now.nodes }
+    requires as_many { before.old.nodes ≡ links.now.nodes }
+    requires kept { IsKeptFlow links.now.links.items levels.old }
+    ensures kept { IsKeptFlow links.now.links.items levels.new }
+    ensures fits { finder.new.nodes ≡ links.now.nodes }
+    ensures settled { AreLabels links.now.nodes (link_arc links.now.links.items levels.new 1) finder.new.labels }
+    ensures greatest { IsGreatest links.now.links.items levels.new }
+{
+    if !round(links, levels, finder) {
+        settle(links, levels, finder, before);
+    }
+}
+
+impl Links {
+    /// The levels of a kept flow to begin at: a guess at one of greatest gain, where there is one that is kept, and else
+    /// that of nothing. It fails only where memory runs out.
+    pub fn begin(&self, alloc: Global) -> Result<Vec<u32>, OutOfMemory>
+        ensures { IfOk result (λ levels. IsKeptFlow self.now.links.items levels.items) }
+    {
+        if let Some(levels) = guess(alloc, self.nodes, &self.links)? {
+            if self.keeps(alloc, &levels)? {
+                return Ok(levels);
+            }
+        }
+        self.idle(alloc)
+    }
 }

@@ -9,7 +9,7 @@ ghost use Rattle.tn_links.specs.Lots.{link_arc};
 use std::alloc::Global;
 use tn_base::OutOfMemory;
 use tn_cycle::Finder;
-use tn_links::{Links, settle};
+use tn_links::{Links, settle_near};
 
 /// The levels of a flow of greatest gain; the finder reads labels that show it.
 pub(crate) fn settled(
@@ -27,8 +27,8 @@ pub(crate) fn settled(
     ensures labelled { IfOk result (λ levels. AreLabels nodes (link_arc links.now.links.items levels.items 1)
         finder.new.labels) }
 {
-    let mut levels = links.idle(alloc)?;
+    let mut levels = links.begin(alloc)?;
     let mut before = Finder::new(alloc, nodes)?;
-    settle(links, &mut levels, finder, &mut before);
+    settle_near(links, &mut levels, finder, &mut before);
     Ok(levels)
 }

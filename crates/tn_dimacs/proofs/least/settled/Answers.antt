@@ -9,8 +9,8 @@ pub returns-clause-least : goal.returns-clause-least
 returns-clause-least c =
     let links = c.in_ok-links.links in
     let old = c.in_ok-levels.levels in
-    let new = c.settle.new.levels in
-    let settled = c.settle.ensures in
+    let new = c.settle_near.new.levels in
+    let settled = c.settle_near.ensures in
     let kept = settled.kept in
     let count : old.len ≡ length new =
     omega (arith, old.ok.0, c.in_ok-levels.ensures.kept.one_each, kept.one_each) in

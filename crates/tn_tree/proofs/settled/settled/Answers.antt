@@ -8,20 +8,20 @@ use Rattle.tn_tree.proofs.settled.settled.Goals as goal
 
 pub returns-clause-kept : goal.returns-clause-kept
 returns-clause-kept c =
-    let new_sized = c.settle.ensures.kept.one_each in
+    let new_sized = c.settle_near.ensures.kept.one_each in
     let old_sized = c.in_ok-levels.ensures.kept.one_each in
     let len_is = c.in_ok-levels.levels.ok.0 in
     subst (IsKeptFlow c.args.links.now.links.items)
-    (sym (take_whole c.settle.new.levels (drop (length c.settle.new.levels) c.in_ok-levels.levels.items)
-    c.in_ok-levels.levels.len (omega (arith, new_sized, old_sized, len_is)))) c.settle.ensures.kept
+    (sym (take_whole c.settle_near.new.levels (drop (length c.settle_near.new.levels) c.in_ok-levels.levels.items)
+    c.in_ok-levels.levels.len (omega (arith, new_sized, old_sized, len_is)))) c.settle_near.ensures.kept
 
 pub returns-clause-labelled : goal.returns-clause-labelled
 returns-clause-labelled c =
-    let new_sized = c.settle.ensures.kept.one_each in
+    let new_sized = c.settle_near.ensures.kept.one_each in
     let old_sized = c.in_ok-levels.ensures.kept.one_each in
     let len_is = c.in_ok-levels.levels.ok.0 in
-    subst (λ levels. AreLabels c.args.nodes (link_arc c.args.links.now.links.items levels 1) c.settle.new.finder.labels)
-    (sym (take_whole c.settle.new.levels (drop (length c.settle.new.levels) c.in_ok-levels.levels.items)
+    subst (λ levels. AreLabels c.args.nodes (link_arc c.args.links.now.links.items levels 1) c.settle_near.new.finder.labels)
+    (sym (take_whole c.settle_near.new.levels (drop (length c.settle_near.new.levels) c.in_ok-levels.levels.items)
     c.in_ok-levels.levels.len (omega (arith, new_sized, old_sized, len_is))))
-    (subst (λ n. AreLabels n (link_arc c.args.links.now.links.items c.settle.new.levels 1) c.settle.new.finder.labels)
-    c.requires.sized c.settle.ensures.settled)
+    (subst (λ n. AreLabels n (link_arc c.args.links.now.links.items c.settle_near.new.levels 1) c.settle_near.new.finder.labels)
+    c.requires.sized c.settle_near.ensures.settled)
