@@ -8,6 +8,7 @@ use Rattle.std.proofs.lemmas.List.{get_or-set_other, get_or-set_same, length-set
 use Rattle.std.proofs.Math.IntN.{*ℤ-zero, *ℤ-one, *ℤ_comm}
 use Rattle.tn_base.specs.Arcs.{IsAtMost}
 use Rattle.tn_links.specs.Totals.{total}
+use Rattle.tn_links.proofs.BalanceLemmas.{added}
 use Rattle.tn_links.proofs.TotalLemmas.{times-minus, total-minus, total-most, total-same, total-zero, total_one}
 use Rattle.tn_counts.specs.Counts.{AreCounts, trade_at}
 use Rattle.tn_counts.specs.Laminar.{holds}
@@ -23,23 +24,6 @@ use Rattle.tn_tree.specs.Lists.{count_in}
 use Rattle.tn_tree.specs.Nets.{end_at, firm_net, most_sum, net_at}
 
 -- ---- lists to which numbers are added
-
--- a number of a list that another is added to
-pub added : (xs : List ℤ) (p v : ℕ) (z : ℤ) → p < length xs
-    → get_or (set xs p (get_or xs p (pos 0) +ℤ z)) v (pos 0)
-    ≡ get_or xs v (pos 0) +ℤ (if v == p then z else pos 0)
-added xs p v z inside = elim (cases_eq v p) [
-  | inl same ↦
-      let here = ap (λ (k : ℕ). get_or (set xs p (get_or xs p (pos 0) +ℤ z)) k (pos 0)) same
-      ∙ get_or-set_same xs p (get_or xs p (pos 0) +ℤ z) (pos 0) inside in
-      let before = ap (λ (k : ℕ). get_or xs k (pos 0)) same in
-      let test = ap (λ (b : Bool). if b then z else pos 0) (eq-eqb v p same) in
-      omega (arith, ints, here, before, test)
-  | inr other ↦
-      let there = get_or-set_other xs p v (get_or xs p (pos 0) +ℤ z) (pos 0) other in
-      let test = ap (λ (b : Bool). if b then z else pos 0) (ne_eqb v p other) in
-      omega (arith, ints, there, test)
-]
 
 pub times_unit : (z : ℤ) → z *ℤ pos 1 ≡ z
 times_unit z = let one = *ℤ-one z in omega (arith, ints, one)

@@ -20,7 +20,7 @@ use tn_counts::{UnitMarket, UnitTrade};
 use tn_model::{Contract, Contracts};
 use tn_read_units::{UnitDocument, market_of};
 use tn_said::{Said, UnitBundle, UnitEdit, UnitEdits, UnitState, UnitStates};
-use tn_tree::{Solved, solve_from};
+use tn_tree::{Solved, solve_market};
 
 /// What is kept from edit to edit.
 #[derive(Drop)]
@@ -31,8 +31,6 @@ pub(crate) struct Standing {
     admitted: Vec<u32>,
     /// Whether each firm is away.
     away: Vec<bool>,
-    /// How many units of each trade went at last, where the search begins; nothing at first.
-    counts: Vec<u32>,
 }
 
 /// How many units of a trade are admitted after an edit, of which so many were before it.
@@ -205,7 +203,6 @@ fn begin(alloc: Global, document: &UnitDocument) -> Result<Standing, OutOfMemory
         market,
         admitted,
         away,
-        counts: Vec::new(alloc),
     })
 }
 
@@ -229,7 +226,7 @@ fn take_edit(
     Ok(())
 }
 
-/// The state of what is kept: an equilibrium of the usable units, looked for from the counts at last on.
+/// The state of what is kept: an equilibrium of the usable units.
 fn next_state(
     alloc: Global,
     document: &UnitDocument,
@@ -245,10 +242,8 @@ fn next_state(
     let trades = document.trades();
     let usable = usable_trades(alloc, trades, &standing.admitted, &standing.away)?;
     standing.market.trades = usable;
-    let solved = solve_from(alloc, &standing.market, &standing.counts)?;
-    let state = state_of(alloc, &standing.market.trades, &solved)?;
-    standing.counts = solved.counts;
-    Ok(state)
+    let solved = solve_market(alloc, &standing.market)?;
+    state_of(alloc, &standing.market.trades, &solved)
 }
 
 /// A state after each edit, in order.
@@ -273,9 +268,8 @@ fn states_from(
 }
 
 /// An equilibrium by counts of the document's firms after each edit, over the units that are usable then: those that are
-/// admitted of trades both of whose firms are there. At first no unit is admitted, and all firms are there. Each is looked
-/// for from the counts of the one before on. The edits are of firms and trades that the document has, and of no more units
-/// than there are. It fails only where memory runs out.
+/// admitted of trades both of whose firms are there. At first no unit is admitted, and all firms are there. The edits are of
+/// firms and trades that the document has, and of no more units than there are. It fails only where memory runs out.
 pub fn answer_unit_session(
     alloc: Global,
     document: &UnitDocument,

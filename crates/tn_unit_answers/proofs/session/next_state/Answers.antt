@@ -11,8 +11,8 @@ use Rattle.tn_unit_answers.proofs.StandingLemmas.{lowered, made_usable}
 use Rattle.tn_unit_answers.proofs.StateLemmas.{state_is, state_within}
 use Rattle.tn_unit_answers.proofs.session.next_state.Goals as goal
 
-pub solve_from-requires : goal.solve_from-requires
-solve_from-requires c =
+pub solve_market-requires : goal.solve_market-requires
+solve_market-requires c =
     (lowered c.args.document.now c.trades-trades.ensures.kept c.args.standing.now c.requires _ refl
     (made_usable c.args.document.now c.args.standing.now c.trades-trades.result.now c.in_ok-usable.usable.items
     c.deref.result.now c.deref-2.result.now c.in_ok-usable.ensures c.deref.ensures.value c.deref-2.ensures.value
