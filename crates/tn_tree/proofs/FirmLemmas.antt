@@ -14,6 +14,7 @@ use Rattle.tn_links.specs.Links.{rise, room}
 use Rattle.tn_links.specs.RiseLemmas.{rise_at_most, times_small}
 use Rattle.tn_links.specs.Widths.{most_each}
 use Rattle.tn_links.specs.Totals.{total}
+use Rattle.tn_links.proofs.BalanceLemmas.{added}
 use Rattle.tn_links.proofs.TotalLemmas.{total-same}
 use Rattle.tn_counts.specs.Outcomes.{HasEnd}
 use Rattle.tn_counts.specs.Counts.{AreCounts, count_utility, paid_to, payments, trade_at}
@@ -30,7 +31,7 @@ use Rattle.tn_counts.proofs.SmallLemmas.{units_below, units_total}
 use Rattle.tn_counts.proofs.UtilityLemmas.{when}
 use Rattle.tn_tree.specs.Lists.{count_in, own_counts}
 use Rattle.tn_tree.specs.Nets.{most_set_number, most_sum, net_at}
-use Rattle.tn_tree.proofs.NetLemmas.{added, total_next, total_small}
+use Rattle.tn_tree.proofs.NetLemmas.{total_next, total_small}
 
 -- ---- amounts
 

@@ -23,8 +23,6 @@ use Rattle.tn_counts.proofs.SmallLemmas.{units_below, units_total}
 use Rattle.tn_tree.specs.Lists.{count_in}
 use Rattle.tn_tree.specs.Nets.{end_at, firm_net, most_sum, net_at}
 
--- ---- lists to which numbers are added
-
 pub times_unit : (z : ℤ) → z *ℤ pos 1 ≡ z
 times_unit z = let one = *ℤ-one z in omega (arith, ints, one)
 
