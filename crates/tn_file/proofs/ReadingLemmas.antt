@@ -1,5 +1,5 @@
 -- Readings of bytes whatever their version: what they lead to, where they stop, and that a network is read as one.
-use Rattle.std.proofs.Common.{◌≡◌, ℕ, List, Bool, true, false, inl, inr, refl, sym, ap, subst, ◌∙◌, Result, Ok, Err}
+use Rattle.std.proofs.Common.{◌≡◌, ℕ, List, length, Bool, true, false, inl, inr, refl, sym, ap, subst, ◌∙◌, Result, Ok, Err}
 use Rattle.std.specs.Prelude.{codes, Option, None, Some, option_and_then, option_map, unwrap_or, ◌==◌, ◌&&◌, IfOk}
 use Rattle.std.proofs.lemmas.Bool.{and_from, and_left, and_right, cases_Bool, eqb-true, false≢true}
 use Rattle.serde_json.specs.Data.{Data}
@@ -21,6 +21,8 @@ use Rattle.tn_read_units.specs.Stops.{IsNamedDocument}
 use Rattle.tn_read_units.specs.Trades.{UnitTrades}
 use Rattle.tn_read_units.proofs.LawLemmas.{document_leads, documents_named, unit_document_stops}
 use Rattle.tn_read_unit_parts.specs.Arranged.{AreCountsOf, IsUnitArrangement, counts_on_of, unit_arrangement_of}
+use Rattle.tn_read_unit_parts.specs.Edited.{AreUnitEdits, unit_edits_of}
+use Rattle.tn_read_unit_parts.proofs.EditLemmas.{unit_edits_lead, unit_edits_stop}
 use Rattle.tn_read_unit_parts.proofs.ArrangementLemmas.{counts_on_leads, counts_on_stop, unit_arrangement_leads, unit_arrangement_stops}
 use Rattle.tn_read_head.proofs.BesideLemmas.{leads_beside, stops_beside}
 use Rattle.tn_read_head.proofs.ListingStops.{AreNames, told_stop}
@@ -37,7 +39,7 @@ use Rattle.tn_file.specs.Asked.{command_for, unit_command}
 use Rattle.tn_file.specs.Document.{DocumentData, document_of, reading_of}
 use Rattle.tn_file.specs.Json.{json_of}
 use Rattle.tn_file.specs.Laws.{DocumentsAreNetworks, FaultsAreSayable, IsAnyDocument, IsAnyDocumentOf, IsUnitExtra, IsUnitsWith, ReadingsAreNeverTooLong, SaysVersion, UnitsAreAVersionOfSome}
-use Rattle.tn_file.specs.Readings.{AnyDocument, network, units, no_part, arranged, counts_on, answers_units, any_document_by, any_document_of, any_reading_of, as_network, says_units, unit_extra_of, units_of}
+use Rattle.tn_file.specs.Readings.{AnyDocument, UnitExtra, network, units, no_part, arranged, counts_on, unit_edits, answers_units, any_document_by, any_document_of, any_reading_of, as_network, says_units, unit_extra_of, units_of}
 use Rattle.tn_file.specs.Reads.{IsRead, any_view}
 use Rattle.tn_file.proofs.DocumentLeads.{networks_are_of_their_version}
 use Rattle.tn_file.proofs.DocumentStops.{network_faults_are_sayable}
@@ -142,26 +144,32 @@ named_lead top =
     (record { at = documents_named top })
 
 module _ (head : UnitTrades) (kept : AreUnitTrades head) (top : Data) where
-  extra_leads : (command : Command) → Leads (IsUnitExtra head.trades) (unit_extra_of command head top)
+  abbrev IsExtra : UnitExtra → Type 0
+  IsExtra = IsUnitExtra (length head.names.firms) head.trades
+
+  extra_leads : (command : Command) → Leads IsExtra (unit_extra_of command head top)
   unfolding unit_extra_of
   extra_leads Check =
-      leads_bind (IsUnitArrangement head.trades) (IsUnitExtra head.trades) (unit_arrangement_of head top) _
+      leads_bind (IsUnitArrangement head.trades) IsExtra (unit_arrangement_of head top) _
       (unit_arrangement_leads head kept.named kept.few top) (λ part is.
-      leads_ok (IsUnitExtra head.trades) (arranged part) is)
+      leads_ok IsExtra (arranged part) is)
   extra_leads Firms =
-      leads_bind (IsUnitArrangement head.trades) (IsUnitExtra head.trades) (unit_arrangement_of head top) _
+      leads_bind (IsUnitArrangement head.trades) IsExtra (unit_arrangement_of head top) _
       (unit_arrangement_leads head kept.named kept.few top) (λ part is.
-      leads_ok (IsUnitExtra head.trades) (arranged part) is)
+      leads_ok IsExtra (arranged part) is)
   extra_leads Support =
-      leads_bind (AreCountsOf head.trades) (IsUnitExtra head.trades) (counts_on_of head top) _
+      leads_bind (AreCountsOf head.trades) IsExtra (counts_on_of head top) _
       (counts_on_leads head kept.named kept.few top) (λ counts are.
-      leads_ok (IsUnitExtra head.trades) (counts_on counts) are)
-  extra_leads Judge = leads_ok (IsUnitExtra head.trades) no_part tt
-  extra_leads Range = leads_ok (IsUnitExtra head.trades) no_part tt
-  extra_leads Replay = leads_ok (IsUnitExtra head.trades) no_part tt
-  extra_leads Session = leads_ok (IsUnitExtra head.trades) no_part tt
-  extra_leads Solve = leads_ok (IsUnitExtra head.trades) no_part tt
-  extra_leads Test = leads_ok (IsUnitExtra head.trades) no_part tt
+      leads_ok IsExtra (counts_on counts) are)
+  extra_leads Judge = leads_ok IsExtra no_part tt
+  extra_leads Range = leads_ok IsExtra no_part tt
+  extra_leads Replay = leads_ok IsExtra no_part tt
+  extra_leads Session =
+      leads_bind (AreUnitEdits (length head.names.firms) head.trades) IsExtra (unit_edits_of head top) _
+      (unit_edits_lead head kept.named top) (λ listed are.
+      leads_ok IsExtra (unit_edits listed) are)
+  extra_leads Solve = leads_ok IsExtra no_part tt
+  extra_leads Test = leads_ok IsExtra no_part tt
 
   abbrev Told : Fault → Type 0
   Told = IsTold head.names.trades
@@ -181,7 +189,10 @@ module _ (head : UnitTrades) (kept : AreUnitTrades head) (top : Data) where
   extra_stops Judge = stops_ok Told no_part
   extra_stops Range = stops_ok Told no_part
   extra_stops Replay = stops_ok Told no_part
-  extra_stops Session = stops_ok Told no_part
+  extra_stops Session =
+      stops_bind Told (unit_edits_of head top) _
+      (told_from_plain head.names.trades _ (unit_edits_stop head kept.named top)) (λ listed.
+      stops_ok Told (unit_edits listed))
   extra_stops Solve = stops_ok Told no_part
   extra_stops Test = stops_ok Told no_part
 
@@ -189,8 +200,9 @@ units_lead : (command : Command) (top : Data) → Leads IsOfUnits (units_of comm
 unfolding units_of
 units_lead command top =
     leads_bind IsNamedNetwork IsOfUnits (unit_document_of top) _ (named_lead top) (λ doc are.
-    leads_bind (IsUnitExtra doc.head.trades) IsOfUnits (with_names doc.head.names (unit_extra_of command doc.head top)) _
-    (leads_beside (IsUnitExtra doc.head.trades) doc.head.names _ (extra_leads doc.head are.0.head top command)) (λ extra is.
+    let is_extra = IsUnitExtra (length doc.head.names.firms) doc.head.trades in
+    leads_bind is_extra IsOfUnits (with_names doc.head.names (unit_extra_of command doc.head top)) _
+    (leads_beside is_extra doc.head.names _ (extra_leads doc.head are.0.head top command)) (λ extra is.
     leads_ok IsOfUnits (units doc extra) (record { network = are.0; named = are.1; beside = is })))
 
 units_stop : (command : Command) (top : Data) → Stops IsStop (units_of command top)
@@ -298,7 +310,7 @@ reads_from command bytes (Err refusal) reads = tt
 pub asked_for : (command : Command) (asked : UnitCommand) → unit_command command ≡ Some asked → command_for asked ≡ command
 asked_for Judge asked is = absurd cc
 asked_for Replay asked is = absurd cc
-asked_for Session asked is = absurd cc
+asked_for Session asked is = let one : UnitCommand.Session ≡ asked = cc in ap command_for (sym one)
 asked_for Check asked is = let one : UnitCommand.Check ≡ asked = cc in ap command_for (sym one)
 asked_for Firms asked is = let one : UnitCommand.Firms ≡ asked = cc in ap command_for (sym one)
 asked_for Range asked is = let one : UnitCommand.Range ≡ asked = cc in ap command_for (sym one)
@@ -310,7 +322,7 @@ pub asked_answers : (command : Command) (asked : UnitCommand) → unit_command c
     → answers_units command ≡ true
 asked_answers Judge asked is = absurd cc
 asked_answers Replay asked is = absurd cc
-asked_answers Session asked is = absurd cc
+asked_answers Session asked is = refl
 asked_answers Check asked is = refl
 asked_answers Firms asked is = refl
 asked_answers Range asked is = refl
@@ -321,7 +333,6 @@ asked_answers Test asked is = refl
 pub none_asked : (command : Command) → unit_command command ≡ None → answers_units command ≡ false
 none_asked Judge is = refl
 none_asked Replay is = refl
-none_asked Session is = refl
 none_asked command is = absurd cc
 
 -- to other commands the version of units is none

@@ -17,7 +17,7 @@ use Rattle.tn_file.specs.declared.command.Command.{Command}
 use Rattle.tn_read_head.specs.Beside.{Stop, IsStop}
 use Rattle.tn_file.specs.Json.{json_of}
 use Rattle.tn_file.specs.Document.{DocumentData, ExtraData, nothing, arrangement, on_alone, outcome, edits, claim, is_accepted}
-use Rattle.tn_file.specs.Readings.{AnyDocument, UnitExtra, network, units, no_part, arranged, counts_on, answers_units, any_reading_of, no_such_version, says_units}
+use Rattle.tn_file.specs.Readings.{AnyDocument, UnitExtra, network, units, no_part, arranged, counts_on, unit_edits, answers_units, any_reading_of, no_such_version, says_units}
 use Rattle.tn_read_shapes.specs.Shapes.{object_of}
 use Rattle.tn_read_shapes.specs.declared.members.ObjectKind.TheVariants.{Top}
 use Rattle.tn_read_units.specs.Documents.{IsUnitDocument}
@@ -25,6 +25,7 @@ use Rattle.tn_counts.specs.declared.trade.UnitTrade.{UnitTrade}
 use Rattle.tn_read_units.specs.Firms.{UnitDocument}
 use Rattle.tn_read_units.specs.Limits.{unit_version}
 use Rattle.tn_read_unit_parts.specs.Arranged.{AreCountsOf, IsUnitArrangement}
+use Rattle.tn_read_unit_parts.specs.Edited.{AreUnitEdits}
 use Rattle.tn_read_units.specs.Stops.{IsNamedDocument}
 use Rattle.tn_read_claims.specs.Laws.{KeepsClaimLimits}
 use Rattle.tn_read_firms.specs.Laws.{IsListedFirm}
@@ -84,16 +85,17 @@ pub record IsDocumentOf (command : Command) (bytes : List ℕ) (doc : DocumentDa
   pub version : SaysVersion bytes document.version
 
 -- counts within the units, and small prices
-abbrev pub IsUnitExtra : List UnitTrade → UnitExtra → Type 0
-IsUnitExtra trades no_part = Unit {0}
-IsUnitExtra trades (arranged part) = IsUnitArrangement trades part
-IsUnitExtra trades (counts_on counts) = AreCountsOf trades counts
+abbrev pub IsUnitExtra : ℕ → List UnitTrade → UnitExtra → Type 0
+IsUnitExtra firms trades no_part = Unit {0}
+IsUnitExtra firms trades (arranged part) = IsUnitArrangement trades part
+IsUnitExtra firms trades (counts_on counts) = AreCountsOf trades counts
+IsUnitExtra firms trades (unit_edits listed) = AreUnitEdits firms trades listed
 
 -- laminar firms between which trades have units, with their names, and what is read beside them
 pub record IsUnitsWith (doc : UnitDocument) (extra : UnitExtra) : Type 0 where
   pub network : IsUnitDocument doc
   pub named : IsNamedDocument doc
-  pub beside : IsUnitExtra doc.head.trades extra
+  pub beside : IsUnitExtra (length doc.head.names.firms) doc.head.trades extra
 
 -- a document of any version: a network, or one whose trades have units
 abbrev pub IsAnyDocument : Command → AnyDocument → Type 0

@@ -14,6 +14,8 @@ use Rattle.tn_read_units.specs.Firms.{UnitDocument, document_of as unit_document
 use Rattle.tn_read_units.specs.Limits.{unit_version}
 use Rattle.tn_read_units.specs.Trades.{UnitTrades}
 use Rattle.tn_read_unit_parts.specs.Arranged.{UnitArranged, counts_on_of, unit_arrangement_of}
+use Rattle.tn_read_unit_parts.specs.Edited.{unit_edits_of}
+use Rattle.tn_said.specs.declared.session.UnitEdit.{UnitEdit}
 use Rattle.tn_said.specs.declared.said.Fault.{Fault}
 use Rattle.tn_file.specs.Document.{DocumentData, document_of}
 use Rattle.tn_file.specs.Json.{json_of}
@@ -22,7 +24,6 @@ use Rattle.tn_file.specs.Json.{json_of}
 abbrev pub answers_units : Command → Bool
 answers_units Judge = false
 answers_units Replay = false
-answers_units Session = false
 answers_units command = true
 
 -- whether a value says the version of documents whose trades have units
@@ -36,6 +37,7 @@ pub data UnitExtra : Type 0 where
   arranged : UnitArranged → UnitExtra
   -- how many units of each trade go alone
   counts_on : List ℕ → UnitExtra
+  unit_edits : List UnitEdit → UnitExtra
 
 -- what a command reads beside them
 unfoldable pub unit_extra_of : Command → UnitTrades → Data → Result UnitExtra Fault
@@ -45,6 +47,9 @@ unit_extra_of Check head top = do
 unit_extra_of Firms head top = do
   part ← unit_arrangement_of head top
   Ok (arranged part)
+unit_extra_of Session head top = do
+  listed ← unit_edits_of head top
+  Ok (unit_edits listed)
 unit_extra_of Support head top = do
   counts ← counts_on_of head top
   Ok (counts_on counts)

@@ -3,7 +3,7 @@
 use tn_base::TradeSet;
 use tn_market::{Arrangement, Outcome};
 use tn_read_unit_parts::UnitArrangement;
-use tn_said::{Edits, FirmClaim, MarketClaim};
+use tn_said::{Edits, FirmClaim, MarketClaim, UnitEdits};
 
 /// What is asked about firms that meet exchange, by its command.
 #[derive(Drop)]
@@ -44,6 +44,8 @@ pub enum UnitAsked {
     Firms(UnitArrangement),
     /// How far each price may move.
     Range,
+    /// An equilibrium after each of the edits.
+    Session(UnitEdits),
     /// An equilibrium.
     Solve,
     /// Prices for these counts, by trade number.

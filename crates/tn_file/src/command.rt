@@ -32,6 +32,7 @@ pub(crate) enum UnitCommand {
     Check,
     Firms,
     Range,
+    Session,
     Solve,
     Support,
     Test,

@@ -20,7 +20,7 @@ use std::alloc::Global;
 use tn_names::Names;
 use tn_read_head::DocRefusal;
 use tn_read_shapes::{ReadError, fault, member};
-use tn_read_unit_parts::{read_counts_on, read_unit_arrangement};
+use tn_read_unit_parts::{read_counts_on, read_unit_arrangement, read_unit_edits};
 use tn_read_units::{UnitHead, read_unit_document};
 use tn_said::{FaultKind, Word};
 
@@ -116,6 +116,7 @@ fn read_unit_part(
         UnitCommand::Check => Ok(UnitAsked::Check(read_unit_arrangement(alloc, head, top)?)),
         UnitCommand::Firms => Ok(UnitAsked::Firms(read_unit_arrangement(alloc, head, top)?)),
         UnitCommand::Range => Ok(UnitAsked::Range),
+        UnitCommand::Session => Ok(UnitAsked::Session(read_unit_edits(alloc, head, top)?)),
         UnitCommand::Solve => Ok(UnitAsked::Solve),
         UnitCommand::Support => Ok(UnitAsked::Support(read_counts_on(alloc, head, top)?)),
         UnitCommand::Test => Ok(UnitAsked::Test),
@@ -130,10 +131,11 @@ fn unit_command(command: Command) -> Option<UnitCommand>
         Command::Check => Some(UnitCommand::Check),
         Command::Firms => Some(UnitCommand::Firms),
         Command::Range => Some(UnitCommand::Range),
+        Command::Session => Some(UnitCommand::Session),
         Command::Solve => Some(UnitCommand::Solve),
         Command::Support => Some(UnitCommand::Support),
         Command::Test => Some(UnitCommand::Test),
-        Command::Judge | Command::Replay | Command::Session => None,
+        Command::Judge | Command::Replay => None,
     }
 }
 

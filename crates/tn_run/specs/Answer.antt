@@ -14,7 +14,7 @@ use Rattle.tn_answer.specs.Kept.{HasAscendingTrades, IsWithinClaims}
 use Rattle.tn_names.specs.Names.{NameLists, IsNameList}
 use Rattle.tn_read_head.specs.Beside.{Stop}
 use Rattle.tn_file.specs.Document.{DocumentData, ExtraData, arrangement, on_alone, outcome, edits, claim}
-use Rattle.tn_file.specs.Readings.{AnyDocument, UnitExtra, network, units, arranged, counts_on, any_reading_of, names_in}
+use Rattle.tn_file.specs.Readings.{AnyDocument, UnitExtra, network, units, arranged, counts_on, unit_edits, any_reading_of, names_in}
 use Rattle.tn_file.specs.declared.command.Command.{Command}
 use Rattle.tn_file.specs.declared.command.Command.TheVariants.{Check, Firms, Judge, Range, Replay, Session, Solve, Support, Test}
 use Rattle.tn_commands.specs.Implied.{IsEfficientAndStable}
@@ -30,6 +30,7 @@ use Rattle.tn_read_units.specs.Firms.{UnitDocument}
 use Rattle.tn_unit_answers.specs.Check.{ChecksByCounts}
 use Rattle.tn_unit_answers.specs.Firms.{TellsHoldingsByCounts}
 use Rattle.tn_unit_answers.specs.Range.{TellsRangesByCounts}
+use Rattle.tn_unit_answers.specs.Session.{TellsUnitStates}
 use Rattle.tn_unit_answers.specs.Solve.{SolvesByCounts}
 use Rattle.tn_unit_answers.specs.Support.{SupportsCounts}
 
@@ -95,11 +96,17 @@ abbrev pub SupportsUnits : UnitDocument → UnitExtra → Said → Type 0
 SupportsUnits doc (counts_on counts) said = SupportsCounts doc counts said
 SupportsUnits doc extra said = ⊥
 
+-- an equilibrium after each of its edits
+abbrev pub SessionsUnits : UnitDocument → UnitExtra → Said → Type 0
+SessionsUnits doc (unit_edits listed) said = TellsUnitStates doc listed said
+SessionsUnits doc extra said = ⊥
+
 -- the defined answer of a command on a document whose trades have units; its firms are laminar, so they meet exchange
 abbrev pub IsUnitAnswerOf : Command → UnitDocument → UnitExtra → Said → Type 0
 IsUnitAnswerOf Check doc extra said = ChecksUnits doc extra said
 IsUnitAnswerOf Firms doc extra said = HoldsUnits doc extra said
 IsUnitAnswerOf Range doc extra said = TellsRangesByCounts doc said
+IsUnitAnswerOf Session doc extra said = SessionsUnits doc extra said
 IsUnitAnswerOf Solve doc extra said = SolvesByCounts doc said
 IsUnitAnswerOf Support doc extra said = SupportsUnits doc extra said
 IsUnitAnswerOf Test doc extra said = said ≡ Accepted

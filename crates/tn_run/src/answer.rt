@@ -1,6 +1,6 @@
 //! The answer to the bytes of a document.
 
-ghost use Rattle.std.specs.Prelude.{◌≡◌, ◌≤◌, IfOk};
+ghost use Rattle.std.specs.Prelude.{◌≡◌, ◌≤◌, length, IfOk};
 ghost use Rattle.tn_answer.specs.Kept.{IsWithinClaims};
 ghost use Rattle.tn_file.specs.Readings.{any_reading_of, names_in};
 ghost use Rattle.tn_file.specs.Reads.{IsMade, IsRead, any_view, read_for};
@@ -24,7 +24,8 @@ use tn_raw_answers::{answer_firms, answer_replay_raw, answer_test};
 use tn_read_units::UnitDocument;
 use tn_said::{Fault, FaultKind, Place, Said};
 use tn_unit_answers::{
-    answer_unit_check, answer_unit_firms, answer_unit_range, answer_unit_solve, answer_unit_support,
+    answer_unit_check, answer_unit_firms, answer_unit_range, answer_unit_session,
+    answer_unit_solve, answer_unit_support,
 };
 
 /// How many bytes a document may have.
@@ -70,7 +71,7 @@ fn answer_network(alloc: Global, doc: Document) -> Result<(Said, Names), OutOfMe
 
 /// The answer to what is asked about a document whose trades have units.
 fn answer_units(alloc: Global, doc: &UnitDocument, asked: &UnitAsked) -> Result<Said, OutOfMemory>
-    requires part { IsUnitExtra doc.now.head.trades (unit_part_of asked.now) }
+    requires part { IsUnitExtra (length doc.now.head.names.firms) doc.now.head.trades (unit_part_of asked.now) }
     ensures answer { IfOk result (IsUnitAnswerOf (unit_asked_by asked.now) doc.now (unit_part_of asked.now)) }
     ensures within { IfOk result IsWithinClaims }
 {
@@ -78,6 +79,7 @@ fn answer_units(alloc: Global, doc: &UnitDocument, asked: &UnitAsked) -> Result<
         UnitAsked::Check(at) => answer_unit_check(alloc, doc, &at.counts, &at.prices),
         UnitAsked::Firms(at) => answer_unit_firms(alloc, doc, &at.counts, &at.prices),
         UnitAsked::Range => answer_unit_range(alloc, doc),
+        UnitAsked::Session(edits) => answer_unit_session(alloc, doc, edits),
         UnitAsked::Solve => answer_unit_solve(alloc, doc),
         UnitAsked::Support(counts) => answer_unit_support(alloc, doc, counts),
         // They are laminar.
@@ -91,7 +93,7 @@ fn answer_by_counts(
     doc: UnitDocument,
     asked: UnitAsked,
 ) -> Result<(Said, Names), OutOfMemory>
-    requires part { IsUnitExtra doc.head.trades (unit_part_of asked) }
+    requires part { IsUnitExtra (length doc.head.names.firms) doc.head.trades (unit_part_of asked) }
     ensures answer { IfOk result (λ told. IsUnitAnswerOf (unit_asked_by asked) doc (unit_part_of asked) told.0) }
     ensures names { IfOk result (λ told. told.1 ≡ doc.head.names) }
     ensures within { IfOk result (λ told. IsWithinClaims told.0) }

@@ -1,5 +1,5 @@
-//! Documents whose trades have units: equilibria, verdicts, prices and ranges by counts, commands that answer none, and
-//! faults.
+//! Documents whose trades have units: equilibria, verdicts, prices, ranges and states by counts, commands that answer
+//! none, and faults.
 
 pub(crate) const UNITS: &str = r#"solve
 {"version":4,"firms":[{"name":"S","kind":"laminar","sets":[{"trades":["a"],"sold":[[120,-3],[80,-5]]}]},{"name":"B","kind":"laminar","sets":[{"trades":["a"],"bought":[[100,9],[100,4]]}]}],"trades":[{"name":"a","seller":"S","buyer":"B","units":200}]}
@@ -107,4 +107,24 @@ support
 
 firms
 {"version":4,"firms":[{"name":"S","kind":"laminar","sets":[{"trades":["a"],"sold":[[120,-3],[80,-5]]}]},{"name":"B","kind":"laminar","sets":[{"trades":["a"],"bought":[[100,9],[100,4]]}]}],"trades":[{"name":"a","seller":"S","buyer":"B","units":200}],"arrangement":{"on":[],"prices":[]}}
-1 {"answer":"fault","fault":18,"name":"PriceMissing","place":["arrangement","prices","a"]}"#;
+1 {"answer":"fault","fault":18,"name":"PriceMissing","place":["arrangement","prices","a"]}
+
+session
+{"version":4,"firms":[{"name":"S","kind":"laminar","sets":[{"trades":["a"],"sold":[[120,-3],[80,-5]]}]},{"name":"B","kind":"laminar","sets":[{"trades":["a"],"bought":[[100,9],[100,4]]}]}],"trades":[{"name":"a","seller":"S","buyer":"B","units":200}],"edits":[["admit","a",50],["admit","a"],["leave","B"],["join","B"],["admit","a",110],["admit","a",0],["admit","*"],["bar","*"]]}
+0 {"answer":"session","edits":[{"on":[["a",50]],"prices":[["a",3~9]],"surplus":300},{"on":[["a",120]],"prices":[["a",4]],"surplus":620},{"on":[],"prices":[],"surplus":0},{"on":[["a",120]],"prices":[["a",4]],"surplus":620},{"on":[["a",110]],"prices":[["a",3~4]],"surplus":610},{"on":[],"prices":[],"surplus":0},{"on":[["a",120]],"prices":[["a",4]],"surplus":620},{"on":[],"prices":[],"surplus":0}]}
+
+session
+{"version":4,"firms":[{"name":"S","kind":"laminar","sets":[{"trades":["a"],"sold":[[120,-3],[80,-5]]}]},{"name":"B","kind":"laminar","sets":[{"trades":["a"],"bought":[[100,9],[100,4]]}]}],"trades":[{"name":"a","seller":"S","buyer":"B","units":200}],"edits":[["admit","a",201]]}
+1 {"answer":"fault","fault":10,"name":"AmountRange","place":["edits",0,2]}
+
+session
+{"version":4,"firms":[{"name":"S","kind":"laminar","sets":[{"trades":["a"],"sold":[[120,-3],[80,-5]]}]},{"name":"B","kind":"laminar","sets":[{"trades":["a"],"bought":[[100,9],[100,4]]}]}],"trades":[{"name":"a","seller":"S","buyer":"B","units":200}],"edits":[["admit","a"],["bar","a",1]]}
+1 {"answer":"fault","fault":3,"name":"Shape","place":["edits",1]}
+
+session
+{"version":4,"firms":[{"name":"S","kind":"laminar","sets":[{"trades":["a"],"sold":[[120,-3],[80,-5]]}]},{"name":"B","kind":"laminar","sets":[{"trades":["a"],"bought":[[100,9],[100,4]]}]}],"trades":[{"name":"a","seller":"S","buyer":"B","units":200}],"edits":[["admit","*",1]]}
+1 {"answer":"fault","fault":8,"name":"UnknownTrade","place":["edits",0,1]}
+
+session
+{"version":4,"firms":[{"name":"S","kind":"laminar","sets":[{"trades":["a"],"sold":[[120,-3],[80,-5]]}]},{"name":"B","kind":"laminar","sets":[{"trades":["a"],"bought":[[100,9],[100,4]]}]}],"trades":[{"name":"a","seller":"S","buyer":"B","units":200}],"edits":[["admit","a",1,1]]}
+1 {"answer":"fault","fault":3,"name":"Shape","place":["edits",0]}"#;
