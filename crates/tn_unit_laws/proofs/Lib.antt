@@ -10,3 +10,4 @@ pub mod TwinLemmas
 pub mod AvoidLemmas
 pub mod BoundLemmas
 pub mod OnePriceLemmas
+pub mod LaminarLemmas

@@ -181,3 +181,8 @@ pub record OnePriceIsEnough : Type 0 where
   pub least : (firms : List CountFirm) (trades : List UnitTrade) (scale : ℤ) (on : ℕ) (prices ones : ℕ → ℤ)
       → HasUnitPrices firms trades scale on prices → AreLeastOfTwins trades prices ones
       → IsEquilibrium (unit_firms trades firms) (unit_trades trades) scale on (price_of_unit trades ones)
+
+-- the unit firms of a market of laminar firms meet exchange
+abbrev pub MarketsMeetExchange : Type 0
+MarketsMeetExchange = (market : UnitMarket) → IsUnitMarket market
+    → MeetExchange (unit_firms market.trades.items (firms_of market))

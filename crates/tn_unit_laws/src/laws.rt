@@ -1,7 +1,7 @@
 //! Laws of the unit network. Each is the contract of a function with an empty body: calling it proves nothing more, and
 //! costs nothing.
 
-ghost use Rattle.tn_unit_laws.specs.Laws.{CountsAreOfSets, EfficientByCounts, EquilibriaByCountsAreEquilibria, EquilibriaByCountsAreStable, LossesBoundUnitPrices, MarketsFitByCounts, MoreSurplusBarsUnitPrices, NegativeCyclesBarUnitPrices, OnePriceIsEnough, TwinsCostTheSame, UnitsMakeNetworks};
+ghost use Rattle.tn_unit_laws.specs.Laws.{CountsAreOfSets, EfficientByCounts, EquilibriaByCountsAreEquilibria, EquilibriaByCountsAreStable, LossesBoundUnitPrices, MarketsFitByCounts, MarketsMeetExchange, MoreSurplusBarsUnitPrices, NegativeCyclesBarUnitPrices, OnePriceIsEnough, TwinsCostTheSame, UnitsMakeNetworks};
 
 /// Firms by counts, and trades of many units between two different ones of them, make a network in which each unit is a
 /// trade of its own: each firm has a position for each unit of its trades.
@@ -67,4 +67,10 @@ pub fn losses_bound_unit_prices()
 /// neither need be: of two units that are wanted only together, at 1 and 9, the price may be 5 for both, but no 9.
 pub fn one_price_is_enough()
     ensures { OnePriceIsEnough }
+{}
+
+/// The unit firms of a market of laminar firms meet the exchange property: each is a sum of concave functions of net
+/// counts over nested sets of its unit trades, and of an amount for each.
+pub fn markets_meet_exchange()
+    ensures { MarketsMeetExchange }
 {}

@@ -8,6 +8,6 @@ mod laws;
 pub use laws::{
     counts_are_of_sets, efficient_by_counts, equilibria_by_counts_are_equilibria,
     equilibria_by_counts_are_stable, losses_bound_unit_prices, markets_fit_by_counts,
-    more_surplus_bars_unit_prices, negative_cycles_bar_unit_prices, one_price_is_enough,
-    twins_cost_the_same, units_make_networks,
+    markets_meet_exchange, more_surplus_bars_unit_prices, negative_cycles_bar_unit_prices,
+    one_price_is_enough, twins_cost_the_same, units_make_networks,
 };
