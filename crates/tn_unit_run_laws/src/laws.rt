@@ -2,6 +2,7 @@
 //! calling it proves nothing more, and costs nothing.
 
 ghost use Rattle.tn_unit_run_laws.specs.Laws.{AnswersAreStableUnits, AnswersBarUnitPrices, DocumentsMakeUnitNetworks, RangesAreOfUnits};
+ghost use Rattle.tn_unit_run_laws.specs.Runs.{RunsSpeakOfUnits};
 
 /// Every document that is read whose trades have units makes a network of unit trades and unit firms.
 pub fn documents_make_unit_networks()
@@ -25,4 +26,11 @@ pub fn answers_bar_unit_prices()
 /// of the unit network at scale 1, where twins may have different prices.
 pub fn ranges_are_of_units()
     ensures { RangesAreOfUnits }
+{}
+
+/// Whatever bytes the program reads: where `solve` answers counts and prices of units, they are an equilibrium of the
+/// unit network of the document that the bytes stand for, efficient and stable there; and where `range` answers ranges
+/// of trades with units, they are those of each of its unit trades.
+pub fn runs_speak_of_units()
+    ensures { RunsSpeakOfUnits }
 {}
