@@ -32,7 +32,8 @@ class Limits:
 class UnitLimits:
     """Where trades have units: firms, and trades; the sets of all firms; the units of a trade, of a step, and of all trades
     together; how many sets of a firm may hold one trade; the steps of a list; the largest number of a firm, which is for a
-    unit; how far from 0 a set may begin, and how many numbers it may have; the largest price of an arrangement."""
+    unit; how far from 0 a set may begin, and how many numbers it may have; the largest price of an arrangement; edits, and
+    edits times trades."""
     firms: int = 1024
     trades: int = 4096
     sets: int = 4096
@@ -43,6 +44,8 @@ class UnitLimits:
     farthest: int = 256
     values: int = 513
     price: int = 2 * 10 ** 11
+    edits: int = 2048
+    edited: int = 2 ** 21
 
 
 UNIT_VERSION, UNIT_LIMITS = 4, UnitLimits()

@@ -5,11 +5,12 @@ import json
 from fuzz_lib.documents import spoil
 from fuzz_lib.limits import LIMITS, SETS, UNIT_LIMITS, UNIT_VERSION
 from fuzz_lib.programs import ASKED, LAYOUTS, want
-from fuzz_lib.unit_documents import at_unit_limit, change_units, draw_arrangement
-from fuzz_lib.unit_network import UnitNetwork, units_as_trades
+from fuzz_lib.unit_documents import at_unit_limit, change_units, draw_arrangement, draw_unit_edits
+from fuzz_lib.unit_network import UnitNetwork, units_as_trades, usable_units
 from fuzz_lib.unit_reader import COUNTING
 
 MOST_COUNTS = 3000  # of networks of which all counts are tried
+MOST_STATE_COUNTS = 200  # and of what is usable after an edit
 MOST_OWN, MOST_TWINS = LIMITS[3].own, 200  # of unit networks that are asked as documents of version 3
 FAR = 10 ** 15  # a price without a bound goes as far
 ROWS = [words for words in LAYOUTS if words.split()[0] in COUNTING]
@@ -33,7 +34,8 @@ def hold_units(program, document, draw):
     counts, prices = network.counts(solved["on"]), dict(solved["prices"])
     said = program.again("check", document, arrangement=arrangement_of(counts, prices))
     want(said == {"answer": "equilibrium", "surplus": solved["surplus"]}, "what is solved", said, solved)
-    document = {**document, "arrangement": draw_arrangement(draw, document, counts, prices)}
+    document = {**document, "arrangement": draw_arrangement(draw, document, counts, prices), "edits": draw_unit_edits(draw, document)}
+    hold_states(document, network, program.ask("session", document))
     asked = {words: program.ask(words, document) for words in ("check", "firms", "support")}
     hold_judged(document, network, asked)
     hold_twins(program, document, asked, solved, ranged)
@@ -53,6 +55,21 @@ def hold_solved(document, network, solved):
     want(solved["on"] == listed(counts), "the trades with units", solved)
     said = network.verdict(counts, prices)
     want(said == {"answer": "equilibrium", "surplus": solved["surplus"]}, "no equilibrium", said, solved)
+
+
+def hold_states(document, network, said):
+    """After each edit the counts and prices are an equilibrium of the usable units, and trades with a usable unit alone have a price."""
+    want(said["answer"] == "session" and len(said["edits"]) == len(document["edits"]), "the count of states", said)
+    for k, state in enumerate(said["edits"]):
+        then = network.with_units(usable_units(document, document["edits"][:k + 1]))
+        counts, prices = then.counts(state["on"]), dict(state["prices"])
+        want(state.keys() == {"on", "prices", "surplus"} and state["on"] == listed(counts), "the trades with units in a state", k, state)
+        want([*prices] == [name for name, count in then.units.items() if count], "the prices of usable trades", k, state)
+        want(all(0 <= count <= then.units[name] for name, count in counts.items()), "more units than are usable", k, state)
+        said_of = then.verdict(counts, dict.fromkeys(then.units, 0) | prices)
+        want(said_of == {"answer": "equilibrium", "surplus": state["surplus"]}, "a state that is no equilibrium", k, said_of, state)
+        if then.size() <= MOST_STATE_COUNTS:
+            want(state["surplus"] == then.greatest(), "another surplus of all usable counts", k, state)
 
 
 def listed(counts):
@@ -76,6 +93,8 @@ def hold_answer(document, network, said):
         hold_solved(document, network, said)
     elif said["answer"] == "ranges":
         hold_ranged(document, network, said)
+    elif said["answer"] == "session":
+        hold_states(document, network, said)
     else:
         words = {"firms": "firms", "prices": "support", "cycle": "support"}.get(said["answer"], "check")
         hold_judged(document, network, {words: said})
@@ -251,7 +270,7 @@ def field_of(value):
 
 def hold_units_quickly(program, document, draw):
     """Asks one command of a document, and holds what it says to the firms' best counts."""
-    document = {**document, "arrangement": draw_arrangement(draw, document, {}, {})}
+    document = {**document, "arrangement": draw_arrangement(draw, document, {}, {}), "edits": draw_unit_edits(draw, document)}
     words = draw.choice([*COUNTING * 3, *ROWS, *(ASKED if draw.random() < 0.1 else [])])
     said = program.ask(words, document)
     if words in ROWS:
@@ -262,6 +281,8 @@ def hold_units_quickly(program, document, draw):
         hold_ranged(document, UnitNetwork(document), said, program.again("solve", document))
     elif words == "solve":
         hold_solved(document, UnitNetwork(document), said)
+    elif words == "session":
+        hold_states(document, UnitNetwork(document), said)
     else:
         hold_judged(document, UnitNetwork(document), {words: said})
 

@@ -95,6 +95,8 @@ def make_units(draw, examples):
         change_numbers(draw, document)
     if turn == 2 or "arrangement" not in document:
         document["arrangement"] = draw_arrangement(draw, document, {}, {})
+    if turn == 2 or "edits" not in document:
+        document["edits"] = draw_unit_edits(draw, document)
     return document, turn == 2
 
 
@@ -114,6 +116,22 @@ def draw_arrangement(draw, document, counts, prices):
     on = [[name, near(name, most)] for name, most in units.items()]
     on = [entry for entry in on if entry[1] or draw.random() < 0.1]
     return {"on": draw.sample(on, len(on)), "prices": [[name, price(name)] for name in units]}
+
+
+def draw_unit_edits(draw, document):
+    """Edits of some of a document's trades and firms, with and without units."""
+    units = {trade["name"]: max(0, trade.get("units", 1)) for trade in document["trades"]}  # (numbers may have been changed)
+    firms, edits = [firm["name"] for firm in document["firms"]], []
+    for _ in range(draw.randint(0, 12)):
+        word = draw.choice(["admit", "admit", "admit", "admit", "bar", "leave", "join"])
+        if word in ("leave", "join"):
+            edits += [[word, draw.choice(firms)]] if firms else []
+        elif word == "admit" and units and draw.random() < 0.6:
+            name = draw.choice([*units])
+            edits.append([word, name, draw.choice([0, 1, units[name], draw.randint(0, units[name])]) if units[name] else 0])
+        else:
+            edits.append([word, draw.choice([*units, "*"])])
+    return edits
 
 
 def change_numbers(draw, document):
@@ -178,6 +196,9 @@ def at_unit_limit(draw, document):
     def arranged(on, price=0):
         document["arrangement"] = {"on": on, "prices": [[trade["name"], price] for trade in trades]}
 
+    def edited(edits):
+        document["edits"] = edits
+
     side, some = draw.choice(["bought", "sold"]), draw.choice(trades or [{"name": "none"}])
     draw.choice([
         lambda: firms.extend({"name": f"F{k}..", "kind": "laminar"} for k in range(limits.firms + more - len(firms))),
@@ -199,5 +220,10 @@ def at_unit_limit(draw, document):
         lambda: arranged([[some["name"], -more]]),
         lambda: arranged([], sign * (limits.price + more)),
         lambda: (lanes([1] * (limits.trades - len(trades))), arranged([[trade["name"], more] for trade in trades])),
+        lambda: edited([["admit", some["name"], some.get("units", 1) + more]]),
+        lambda: edited([["admit", some["name"], -more]]),
+        lambda: edited([["bar", "*"]] * (limits.edits + more)),
+        lambda: (lanes([1] * (limits.trades - len(trades))), edited([["bar", "*"]] * (limits.edited // limits.trades + more))),
+        lambda: edited([draw.choice([["bar", some["name"], 0], ["admit", "*", 0], ["leave", "*"], ["admit"], ["admit", some["name"], 0, 0]])]),
         lambda: document.update(version=UNIT_VERSION + more),
     ])()

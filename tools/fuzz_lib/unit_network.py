@@ -1,5 +1,6 @@
 """Networks of documents in which trades have units, and what Python finds of them: firms' best counts by sums of concave
 functions, and for small ones by trying all counts."""
+import copy
 import itertools
 import math
 from dataclasses import dataclass
@@ -123,6 +124,12 @@ class UnitNetwork:
         self.ends = {trade["name"]: (trade["seller"], trade["buyer"]) for trade in document["trades"]}
         self.firms = [UnitFirm(firm, document) for firm in document["firms"]]
 
+    def with_units(self, units):
+        """The same firms, between which trades have so many units, by name."""
+        other = copy.copy(self)
+        other.units = units
+        return other
+
     def counts(self, entries):
         """A count for each trade, 0 of one that isn't listed."""
         return dict.fromkeys(self.units, 0) | dict(entries)
@@ -190,6 +197,18 @@ class UnitNetwork:
     def greatest(self):
         """The greatest surplus, by all counts."""
         return max(surplus for counts in self.all_counts() if (surplus := self.surplus(counts)) is not None)
+
+
+def usable_units(document, edits):
+    """How many units of each trade may go after some edits, one after the other."""
+    trades = {trade["name"]: trade for trade in document["trades"]}
+    admitted, away = dict.fromkeys(trades, 0), set()
+    for word, name, *given in edits:
+        if word in ("leave", "join"):
+            (away.add if word == "leave" else away.discard)(name)
+        for trade in [] if word in ("leave", "join") else [*trades] if name == "*" else [name]:
+            admitted[trade] = 0 if word == "bar" else given[0] if given else trades[trade].get("units", 1)
+    return {name: 0 if away & {trade["seller"], trade["buyer"]} else admitted[name] for name, trade in trades.items()}
 
 
 def units_as_trades(document):

@@ -2,7 +2,7 @@
 from fuzz_lib.reader import (AMOUNT_RANGE, LIMIT, NO_EMPTY, NOT_CONCAVE, NOT_LAMINAR, SHAPE, TOP, Reader, is_whole, want)
 from fuzz_lib.limits import UNIT_LIMITS, UNIT_VERSION
 
-COUNTING = ("check", "firms", "test", "support", "solve", "range")  # the commands that answer such documents; to all others the version is a fault
+COUNTING = ("check", "firms", "test", "support", "solve", "range", "session")  # the commands that answer such documents; to all others the version is a fault
 
 
 def has_units(top):
@@ -34,6 +34,24 @@ class UnitReader(Reader):
             named[self.reference(trade, trade_at, earlier=named)] = None
             want(is_whole(units), SHAPE, units_at)
             want(0 <= units <= self.trades[trade].get("units", 1), AMOUNT_RANGE, units_at)
+
+    def edits(self):
+        """Edits, each of a trade, of all trades or of a firm; so many units are given to a trade alone that is admitted."""
+        edits = self.list(*self.member(self.top, TOP, "edits"), self.limits.edits)
+        want(len(edits) * len(self.trades) <= self.limits.edited, LIMIT, (TOP, "edits"))
+        for edit, at in edits:
+            parts = self.list(edit, at)
+            want(len(parts) in (2, 3), SHAPE, at)
+            (word, word_at), (name, name_at), *given = parts
+            want(isinstance(word, str) and word in ("admit", "bar", "leave", "join"), SHAPE, word_at)
+            want(not given or word == "admit", SHAPE, at)
+            if word in ("leave", "join"):
+                self.known_firm(name, name_at)
+            elif given or name != "*":
+                self.reference(name, name_at)
+            for units, units_at in given:
+                want(is_whole(units), SHAPE, units_at)
+                want(0 <= units <= self.trades[name].get("units", 1), AMOUNT_RANGE, units_at)
 
     def ends(self):
         super().ends()
