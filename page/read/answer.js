@@ -83,7 +83,7 @@ function tradesOf(said) {
         ...itemsOf(said.ranges).flatMap(({trade, low_path, high_path}) => [trade, ...low_path, ...high_path]),
         ...(said.answer === "firms" ? said.firms.flatMap(({has, best}) => [...has, ...best]) : [])];
     return [said.trade, said.at, ...listed.map(nameOn), ...firsts(said.prices), ...firsts(said.contracts),
-        ...(said.answer === "session" ? said.edits.flatMap(({on, prices}) => [...on, ...firsts(prices)]) : [])].filter((name) => typeof name === "string");
+        ...(said.answer === "session" ? said.edits.flatMap(({on, prices}) => [...on.map(nameOn), ...firsts(prices)]) : [])].filter((name) => typeof name === "string");
 }
 
 /** The bundles that an answer says of firms, as `[firm, trades]`. */

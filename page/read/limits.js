@@ -16,10 +16,10 @@ export const UNIT_VERSION = 4n;
 /**
  * The limits where trades have units: the most firms; the most trades; the most sets of all firms; the most units of a trade, of a
  * step and of all trades together; how many sets of a firm may hold one trade; the most steps of a list; and how far from 0 a set
- * begins, how many numbers it has, the largest number of a firm, and the largest price of an arrangement.
+ * begins, how many numbers it has, the largest number of a firm, the largest price of an arrangement, edits, and edits times trades.
  */
 export const UNIT_LIMITS = {most: 1024, trades: 4096, sets: 4096, units: 1048576, holding: 16, steps: 256, farthest: 256, values: 513, amount: 10n ** 7n,
-    price: 2n * 10n ** 11n};
+    price: 2n * 10n ** 11n, edits: 2048, edited: 2097152};
 
 /** Whether a document is one in which trades have units, by its plain data. */
 export function hasUnits(data) {

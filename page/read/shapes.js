@@ -27,6 +27,7 @@ export const UNIT_SHAPES = {
     trade: {needs: {name: "name", seller: "firm_name", buyer: "firm_name"}, may: {units: "number", note: "note"}},
     set: {needs: {trades: "bundle"}, may: {bought: "steps", sold: "steps", from: "number", values: "numbers"}},
     steps: {each: "step"}, step: {items: ["number", "number"]},
+    edits: {each: "unit_edit"}, unit_edit: {items: ["deed", "name", "number"]},
     arrangement: {needs: {on: "counts", prices: "entries"}}, counts: {each: "count"}, count: {items: ["trade_name", "number"]},
 };
 

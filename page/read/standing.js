@@ -38,7 +38,7 @@ export function standing(network, said) {
     }
     if (said.answer === "session") {
         const last = itemsOf(said.edits).at(-1) ?? {on: [], prices: []};
-        return {on: last.on, prices: texts(entriesOf(last.prices))};
+        return {on: namesOn(last.on), units: unitsOf(last.on), prices: texts(entriesOf(last.prices))};
     }
     const on = said.on ?? network.arrangement.on;
     return {on: Array.isArray(on) ? namesOn(on) : null, units: unitsOf(on),

@@ -34,6 +34,9 @@ export function limitLine(network, place, value) {
 function unitLimitLine(network, place, value) {
     const last = place[place.length - 1], version = String(network.data.version), {sets, trades, units, holding} = UNIT_LIMITS;
     if (typeof last !== "string") return say("limit.holding", {trade: quoted(heldIn(network, place, value)), version, most: holding});
+    if (last === "edits" && value.length <= UNIT_LIMITS.edits) {
+        return say("limit.edited", {count: value.length, trades: network.trades.length, version, most: large(UNIT_LIMITS.edited)});
+    }
     if (last === "sets") return say("limit.all_sets", {count: setsBefore(network, place), version, most: large(sets)});
     if (last !== "trades" || value.length > trades) return boundLine(network, OF_UNITS[last], last === "from" ? value : value.length);
     return say("limit.all_units", {count: large(unitsIn(value)), version, most: large(units)});
@@ -70,14 +73,16 @@ export function rangeLine(network, place, number) {
     if (place.at(-1) === "units") return say("beyond.units", {value, most: large(units)});
     if (isOfStep(place) && place.at(-1) === 0n) return say("beyond.step_units", {value, most: large(units)});
     if (part === "firms") return say("beyond.amount", {value, version: String(network.data.version), most: large(amount)});
-    if (part === "arrangement") return member === "on" ? countLine(network, place, value) : say("beyond.price", {value, most: large(price)});
+    if (part === "edits") return countLine(network, network.data.edits[Number(member)][1], value);
+    if (part === "arrangement" && member === "on") return countLine(network, network.data.arrangement.on[Number(place[2])][0], value);
+    if (part === "arrangement") return say("beyond.price", {value, most: large(price)});
     if (part === "outcome") return say("beyond.numerator", {value});
     return member === "plan" ? say("beyond.weight", {value, most: large(over)}) : say("beyond.claim", {value});
 }
 
 /** More units of a trade than it has, or fewer than none. */
-function countLine(network, place, value) {
-    const [name] = network.data.arrangement.on[Number(place[2])], {units} = network.data.trades.find((trade) => trade.name === name);
+function countLine(network, name, value) {
+    const {units} = network.data.trades.find((trade) => trade.name === name);
     return say("beyond.count", {value, trade: quoted(name), most: large(units ?? 1n)});
 }
 

@@ -1,5 +1,7 @@
 // An answer of `session` in sentences.
+import {hasUnits} from "../read/limits.js";
 import {entriesOf, itemsOf} from "../read/network.js";
+import {nameOn} from "../read/standing.js";
 import {say} from "../words/say.js";
 import {Deals, listed} from "./words.js";
 
@@ -19,7 +21,8 @@ const EDITS = {leave: "session.leaves", join: "session.joins", admit: "session.a
 
 /** An edit as a sentence without its point. */
 export function edit(words) {
-    const [act, name] = itemsOf(words), key = EDITS[act] ?? EDITS.bar;
+    const [act, name, units] = itemsOf(words), key = EDITS[act] ?? EDITS.bar;
+    if (units !== undefined) return say("session.admitted_units", {name, count: String(units)});
     if (name === "*" && key === EDITS.admit) return say("session.all_admitted");
     return name === "*" && key === EDITS.bar ? say("session.all_barred") : say(key, {name});
 }
@@ -29,9 +32,11 @@ export function edit(words) {
  * away, a trade that is admitted need not be one that can be used.
  */
 function standing({on, prices, surplus}, network, isOfFirms) {
-    const deals = new Deals(network, {}, {on, prices: new Map([...entriesOf(prices)].map(([name, price]) => [name, String(price)]))});
+    const stands = {on: on.map(nameOn), prices: new Map([...entriesOf(prices)].map(([name, price]) => [name, String(price)]))};
+    const deals = new Deals(network, {}, stands), isCounted = hasUnits(network.data);
     const trading = on.length === 0 ? say("deal.nothing") : `${listed(deals.clauses(on))}.`;
     const off = deals.off.filter((name) => deals.prices.has(name)), trades = deals.priced(off);
     const rest = off.length === 0 ? [] : [say(isOfFirms ? "session.off_usable" : "session.off_admitted", {trades})];
-    return [trading, ...rest, say(isOfFirms ? "session.sum_usable" : "session.sum_admitted", {surplus})].join(" ");
+    const sum = isCounted ? "session.sum_units" : isOfFirms ? "session.sum_usable" : "session.sum_admitted";
+    return [trading, ...rest, say(sum, {surplus})].join(" ");
 }

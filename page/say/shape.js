@@ -11,7 +11,7 @@ const THINGS = {document: "thing.document", firm: "thing.firm", table: "thing.ta
 const WANTED = {version: "wanted.version", kind: "wanted.kind", unit_kind: "wanted.unit_kind", steps: "wanted.steps", step: "wanted.step", counts: "wanted.counts", count: "wanted.count", deed: "wanted.deed", answer: "wanted.answer", firms: "wanted.firms",
     trades: "wanted.trades", rows: "wanted.rows", row: "wanted.row", bundle: "wanted.bundle", entries: "wanted.entries", entry: "wanted.entry",
     sets: "wanted.sets", number: "wanted.number", numbers: "wanted.numbers", number_or_null: "wanted.number_or_null", pairs: "wanted.pairs",
-    pair: "wanted.pair", edits: "wanted.edits", edit: "wanted.edit", nodes: "wanted.nodes", node: "wanted.node", plan: "wanted.plan",
+    pair: "wanted.pair", edits: "wanted.edits", edit: "wanted.edit", unit_edit: "wanted.unit_edit", nodes: "wanted.nodes", node: "wanted.node", plan: "wanted.plan",
     part: "wanted.part", name: "wanted.name", firm_name: "wanted.firm_name", trade_name: "wanted.trade_name"};
 
 const LARGEST = 2n ** 63n;

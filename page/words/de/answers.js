@@ -225,5 +225,7 @@ export const ANSWERS = {
         sum_admitted: "Die Summe der Werte ist {surplus}, und keine andere Menge zugelassener Geschäfte hat eine "
             + "größere.",
         sum_usable: "Die Summe der Werte ist {surplus}, und keine andere Menge nutzbarer Geschäfte hat eine größere.",
+        sum_units: "Die Summe der Werte ist {surplus}, und keine anderen Mengen nutzbarer Einheiten haben eine größere.",
+        admitted_units: {one: "{count} Einheit von {name} ist zugelassen", other: "{count} Einheiten von {name} sind zugelassen"},
     },
 };

@@ -42,7 +42,7 @@ export const FAULTS = {
         wrong_near: "Hier ist {wanted} verlangt, nicht {found}; ist {near} gemeint?",
         minus_zero: "Hier ist eine ganze Zahl verlangt, und `-0` ist keine; zu schreiben ist `0`.",
         too_large: "Hier ist eine ganze Zahl verlangt, die mit Vorzeichen in 64 Bits passt, nicht {number}.",
-        no_units: "In Version 4 haben Geschäfte Einheiten, und `judge`, `session` und `replay` beantworten ein solches Dokument nicht.",
+        no_units: "In Version 4 haben Geschäfte Einheiten, und `judge` und `replay` beantworten ein solches Dokument nicht.",
         form: "Eine Menge hat `bought` und `sold` oder `from` mit `values`; diese hat {members}.",
     },
     thing: {
@@ -64,6 +64,7 @@ export const FAULTS = {
         number_or_null: "eine ganze Zahl oder `null`", pairs: "eine Liste von Paaren",
         pair: "eine Liste von dreien, einem Kauf, einem Verkauf und einer Zahl", edits: "eine Liste von Änderungen",
         edit: "eine Liste von zweien, dem, was getan wird, und einem Namen",
+        unit_edit: "eine Liste von zweien, dem, was getan wird, und einem Namen, oder von dreien, `admit`, einem Geschäft und wie vielen Einheiten,",
         nodes: "eine Liste von Namen von Geschäften und `null`", node: "der Name eines Geschäfts oder `null`",
         plan: "eine Liste von Teilen", part: "eine Liste von dreien, dem Namen einer Firma, einem Bündel und einer Zahl",
         name: "ein Name in Anführungszeichen", firm_name: "der Name einer Firma in Anführungszeichen",
@@ -119,6 +120,7 @@ export const FAULTS = {
             one: "{count} Änderung; ein Dokument der Version {version} hat höchstens {most}.",
             other: "{count} Änderungen; ein Dokument der Version {version} hat höchstens {most}.",
         },
+        edited: "{count} Änderungen und {trades} Geschäfte; in einem Dokument der Version {version} sind Änderungen mal Geschäfte höchstens {most}.",
         nodes: {
             one: "{count} Knoten; ein Kreis eines Dokuments der Version {version} hat 2 bis {most}.",
             other: "{count} Knoten; ein Kreis eines Dokuments der Version {version} hat 2 bis {most}.",

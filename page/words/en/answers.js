@@ -200,5 +200,7 @@ export const ANSWERS = {
         off_usable: "At these prices the other usable trades are off: {trades}.",
         sum_admitted: "The worths sum to {surplus}, and no other set of admitted trades has more.",
         sum_usable: "The worths sum to {surplus}, and no other set of usable trades has more.",
+        sum_units: "The worths sum to {surplus}, and no other numbers of usable units have more.",
+        admitted_units: {one: "{count} unit of {name} is admitted", other: "{count} units of {name} are admitted"},
     },
 };

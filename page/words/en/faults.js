@@ -40,7 +40,7 @@ export const FAULTS = {
         wrong_near: "Here {wanted} is wanted, not {found}; did you mean {near}?",
         minus_zero: "Here a whole number is wanted, and `-0` is none; write `0`.",
         too_large: "Here a whole number is wanted that fits 64 bits with a sign, not {number}.",
-        no_units: "In version 4 trades have units, and `judge`, `session` and `replay` don't answer such a document.",
+        no_units: "In version 4 trades have units, and `judge` and `replay` don't answer such a document.",
         form: "A set has `bought` and `sold`, or `from` with `values`; this one has {members}.",
     },
     thing: {
@@ -59,7 +59,8 @@ export const FAULTS = {
         entry: "a list of two, the name of a trade and a number", sets: "a list of sets", number: "a whole number",
         numbers: "a list of whole numbers", number_or_null: "a whole number or `null`", pairs: "a list of pairs",
         pair: "a list of three, a purchase, a sale and a number", edits: "a list of edits",
-        edit: "a list of two, what is done and a name", nodes: "a list of names of trades and `null`",
+        edit: "a list of two, what is done and a name",
+        unit_edit: "a list of two, what is done and a name, or of three, `admit`, a trade and how many units,", nodes: "a list of names of trades and `null`",
         node: "the name of a trade or `null`", plan: "a list of parts",
         part: "a list of three, the name of a firm, a bundle and a number", name: "a name in quotes",
         firm_name: "the name of a firm in quotes", trade_name: "the name of a trade in quotes",
@@ -111,6 +112,7 @@ export const FAULTS = {
             one: "{count} edit; a document of version {version} has at most {most}.",
             other: "{count} edits; a document of version {version} has at most {most}.",
         },
+        edited: "{count} edits and {trades} trades; in a document of version {version} edits times trades are at most {most}.",
         nodes: {
             one: "{count} node; a cycle of a document of version {version} has 2 to {most}.",
             other: "{count} nodes; a cycle of a document of version {version} has 2 to {most}.",
