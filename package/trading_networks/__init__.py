@@ -21,7 +21,8 @@ page's module answers all that have no `timeout`; `stream` asks one process abou
 """
 from .answers import (Accepted, Answer, Better, BetterByCounts, Blocks, Completes, Cycle, CycleByCounts, Drops, Equilibrium,
                       ExchangeFails, Firm, FirmByCounts, Firms, FirmsByCounts, Impossible, Invalid, Prices, PricesByCounts,
-                      Range, RangeByCounts, Ranges, RangesByCounts, Session, Solved, SolvedByCounts, State, Valid)
+                      Range, RangeByCounts, Ranges, RangesByCounts, Session, SessionByCounts, Solved, SolvedByCounts, State,
+                      StateByCounts, Valid)
 from .assignments import assignment
 from .contributions import FirmMarginal, Marginals, TradeMarginal, clarke, marginals
 from .documents import Document
@@ -42,8 +43,8 @@ __all__ = [
     "CycleByCounts", "Document", "DocumentWarning", "Drops", "Equilibrium", "ExchangeFails", "Fault", "Firm",
     "FirmByCounts", "FirmMarginal", "Firms", "FirmsByCounts", "Impossible", "Invalid", "Marginals", "MarketError",
     "NoMemory", "NoProgram", "Prices", "PricesByCounts", "Range", "RangeByCounts", "Ranges", "RangesByCounts",
-    "ReadFailed", "Session", "Shown", "Solved", "SolvedByCounts", "State", "TimedOut", "TradeMarginal", "Trouble",
-    "Unexpected", "Usage", "Valid", "WriteFailed", "ask", "assignment", "check", "clarke", "find", "firms",
-    "from_lanes", "from_networkx", "highest", "judge", "lowest", "marginals", "middle", "no_prices", "ranges",
-    "replay", "session", "solve", "stream", "support", "test",
+    "ReadFailed", "Session", "SessionByCounts", "Shown", "Solved", "SolvedByCounts", "State", "StateByCounts",
+    "TimedOut", "TradeMarginal", "Trouble", "Unexpected", "Usage", "Valid", "WriteFailed", "ask", "assignment",
+    "check", "clarke", "find", "firms", "from_lanes", "from_networkx", "highest", "judge", "lowest", "marginals",
+    "middle", "no_prices", "ranges", "replay", "session", "solve", "stream", "support", "test",
 ]

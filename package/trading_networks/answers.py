@@ -287,7 +287,7 @@ class Session(Answer):
         """A row for each edit: `edit` (admit, bar, leave or join), its `trade` (the firm of leave and join, `*` for all
         trades), the trades that are then `on`, with blanks between them, and the `surplus`."""
         return [{"edit": edit, "trade": trade, "on": _joined(state.on), "surplus": state.surplus}
-                for (edit, trade), state in zip(self.document["edits"], self.edits)]
+                for (edit, trade, *_), state in zip(self.document["edits"], self.edits)]
 
     def price_frame(self) -> Any:
         """The prices after each edit as a pandas.DataFrame, with a row for each edit, a column (Int64) for each trade
@@ -299,7 +299,7 @@ class Session(Answer):
 
     def plot(self, axes: Any = None) -> Any:
         """The surplus after each edit, as steps. Needs matplotlib."""
-        names = [" ".join(edit) for edit in self.document["edits"]]
+        names = [" ".join(map(str, edit)) for edit in self.document["edits"]]
         return plots.steps(axes, names, [state.surplus for state in self.edits])
 
 
@@ -491,6 +491,25 @@ class RangesByCounts(_OfUnits, Ranges):
 
 
 @dataclass(frozen=True)
+class StateByCounts(State):
+    """An equilibrium of the units that can be used, after an edit. on: the trades of which some units go. units: a dictionary from
+    these trades to how many of their units. prices: of a unit of every trade that can be used."""
+    units: dict[str, int]
+
+
+@dataclass(frozen=True)
+class SessionByCounts(Session):
+    """Of `session` where trades have units. edits: a tuple of StateByCounts, one for each edit, in order."""
+
+    def rows(self) -> list[Json]:
+        """A row for each edit with the members of Session, and with the `units` that it admits, None where it doesn't say; what is
+        on is text, as `a:300 b:200`."""
+        said = [(edit[2] if len(edit) > 2 else None, state) for edit, state in zip(self.document["edits"], self.edits)]
+        return [{"edit": row["edit"], "trade": row["trade"], "units": units, "on": _joined(state.units.items()), "surplus": state.surplus}
+                for row, (units, state) in zip(super().rows(), said) if isinstance(state, StateByCounts)]
+
+
+@dataclass(frozen=True)
 class FirmByCounts(Firm):
     """One firm where trades have units. has, best: the trades of these bundles alone. units, best_units: dictionaries from these
     trades to how many units of each."""
@@ -554,7 +573,7 @@ def object_of(said: Json, asked: bytes, yes: bool) -> Answer:
     if kind is Invalid:
         members = {name: value for name, value in said.items() if name not in ("answer", "reason")}
         return Invalid(said, asked, yes, said["reason"], members)
-    if kind in (Solved, Prices, Ranges, Firms, Better, Cycle):
+    if kind in (Solved, Prices, Ranges, Firms, Better, Cycle, Session):
         document = json.loads(asked)
         if document["version"] == UNIT_VERSION:
             return _by_counts(said, asked, yes, document)
@@ -571,6 +590,8 @@ def _by_counts(said: Json, asked: bytes, yes: bool, document: Json) -> Answer:
     if answer == "firms":
         firms: dict[str, Firm] = {each["firm"]: _firm_by_counts(each) for each in said["firms"]}
         return FirmsByCounts(*common, firms, said["content"], said["surplus"])
+    if answer == "session":
+        return SessionByCounts(*common, tuple(_state_by_counts(each) for each in said["edits"]))
     on = said["on"] if "on" in said else document["arrangement"]["on"]
     units = {trade["name"]: 0 for trade in document["trades"]} | dict(on)
     if answer == "ranges":
@@ -584,6 +605,10 @@ def _by_counts(said: Json, asked: bytes, yes: bool, document: Json) -> Answer:
 def _firm_by_counts(each: Json) -> FirmByCounts:
     return FirmByCounts(each["firm"], _names(each["has"]), each["worth"], each["utility"], _names(each["best"]),
                         each["best_utility"], each["gain"], dict(each["has"]), dict(each["best"]))
+
+
+def _state_by_counts(each: Json) -> StateByCounts:
+    return StateByCounts(_names(each["on"]), dict(each["prices"]), each["surplus"], dict(each["on"]))
 
 
 def _range_by_counts(each: Json) -> RangeByCounts:

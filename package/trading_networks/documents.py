@@ -12,7 +12,7 @@ fractions, decimals, and floats that are whole; `unit` says of what they are the
 from __future__ import annotations
 
 from fractions import Fraction
-from typing import Any, Iterable, Mapping, Optional, Union
+from typing import Any, Iterable, Mapping, Optional, Sequence, Union
 
 from . import kinds
 from .amounts import Amount, count_of, exact
@@ -140,9 +140,10 @@ class Document:
         self._parts.contracts = _prices(contracts)
         return self
 
-    def edited(self, edits: Iterable[tuple[str, str]]) -> Document:
-        """Edits, as `session` takes them: ("admit", trade), ("bar", trade), ("leave", firm), ("join", firm)."""
-        self._parts.edits = [(deed, name) for deed, name in edits]
+    def edited(self, edits: Iterable[Sequence[Any]]) -> Document:
+        """Edits, as `session` takes them: ("admit", trade), ("bar", trade), ("leave", firm), ("join", firm), and ("admit", trade,
+        units), after which so many of the trade's units are admitted."""
+        self._parts.edits = [tuple(edit) for edit in edits]
         return self
 
     # What is made of it

@@ -37,6 +37,7 @@ UNIT_SHAPES: dict[str, dict[str, Any]] = {
     "set": {"needs": {"trades": "bundle"},
             "may": {"bought": "steps", "sold": "steps", "from": "number", "values": "numbers"}},
     "steps": {"each": "step"}, "step": {"items": ["number", "number"]},
+    "edits": {"each": "unit_edit"}, "unit_edit": {"items": ["deed", "name", "number"]},
     "arrangement": {"needs": {"on": "counts", "prices": "entries"}},
     "counts": {"each": "count"}, "count": {"items": ["trade_name", "number"]},
 }
@@ -63,7 +64,8 @@ LIMITS: dict[str, dict[str, int]] = {"1": {"most": 64, **_FEW}, "2": {"most": 12
 
 UNIT_VERSION = "4"
 UNIT_LIMITS: dict[str, int] = {"most": 1024, "trades": 4096, "sets": 4096, "units": 1048576, "holding": 16, "steps": 256,
-                               "farthest": 256, "values": 513, "amount": 10 ** 7, "price": 2 * 10 ** 11}
+                               "farthest": 256, "values": 513, "amount": 10 ** 7, "price": 2 * 10 ** 11, "edits": 2048,
+                               "edited": 2097152}
 
 # The limits by the member, or the kind of firm, that has them: a part of LIMITS and how much more, or one for all versions.
 Bound = Union[int, tuple[str, int]]
@@ -89,7 +91,7 @@ TEXTS: dict[str, Any] = {
     "shape.wrong_near": "Here {wanted} is wanted, not {found}; did you mean {near}?",
     "shape.minus_zero": "Here a whole number is wanted, and `-0` is none; write `0`.",
     "shape.too_large": "Here a whole number is wanted that fits 64 bits with a sign, not {number}.",
-    "shape.no_units": "In version 4 trades have units, and `judge`, `session` and `replay` don't answer such a document.",
+    "shape.no_units": "In version 4 trades have units, and `judge` and `replay` don't answer such a document.",
     "shape.form": "A set has `bought` and `sold`, or `from` with `values`; this one has {members}.",
     "thing.document": "a document", "thing.firm": "a firm", "thing.table": "a table", "thing.laminar": "a laminar firm",
     "thing.middleman": "a middleman", "thing.dealer": "a dealer", "thing.trade": "a trade", "thing.set": "a set",
@@ -108,7 +110,9 @@ TEXTS: dict[str, Any] = {
     "wanted.sets": "a list of sets", "wanted.number": "a whole number", "wanted.numbers": "a list of whole numbers",
     "wanted.number_or_null": "a whole number or `null`", "wanted.pairs": "a list of pairs",
     "wanted.pair": "a list of three, a purchase, a sale and a number", "wanted.edits": "a list of edits",
-    "wanted.edit": "a list of two, what is done and a name", "wanted.nodes": "a list of names of trades and `null`",
+    "wanted.edit": "a list of two, what is done and a name",
+    "wanted.unit_edit": "a list of two, what is done and a name, or of three, `admit`, a trade and how many units,",
+    "wanted.nodes": "a list of names of trades and `null`",
     "wanted.node": "the name of a trade or `null`", "wanted.plan": "a list of parts",
     "wanted.part": "a list of three, the name of a firm, a bundle and a number", "wanted.name": "a name in quotes",
     "wanted.firm_name": "the name of a firm in quotes", "wanted.trade_name": "the name of a trade in quotes",
@@ -159,6 +163,7 @@ TEXTS: dict[str, Any] = {
         "one": "{count} edit; a document of version {version} has at most {most}.",
         "other": "{count} edits; a document of version {version} has at most {most}.",
     },
+    "limit.edited": "{count} edits and {trades} trades; in a document of version {version} edits times trades are at most {most}.",
     "limit.nodes": {
         "one": "{count} node; a cycle of a document of version {version} has 2 to {most}.",
         "other": "{count} nodes; a cycle of a document of version {version} has 2 to {most}.",

@@ -438,6 +438,9 @@ def _unit_limit_line(network: _Network, place: list[Any], value: Any) -> str:
         held = next(name for name in value["trades"]
                     if sum(name in each["trades"] for each in earlier) >= UNIT_LIMITS["holding"])
         return _say("limit.holding", trade=_quoted(held), version=version, most=UNIT_LIMITS["holding"])
+    if last == "edits" and len(value) <= UNIT_LIMITS["edits"]:
+        return _say("limit.edited", count=len(value), trades=len(network.trades), version=version,
+                    most=_large(UNIT_LIMITS["edited"]))
     if last == "sets":
         count = sum(len(firm.get("sets", [])) for firm in network.firms[:place[1] + 1])
         return _say("limit.all_sets", count=count, version=version, most=_large(UNIT_LIMITS["sets"]))
@@ -470,16 +473,17 @@ def _range_line(network: _Network, place: list[Any], number: str) -> str:
         return _say("beyond.amount", value=value, version=network.version, most=_large(network.limits["amount"]))
     if part == "claim" and place[1] == "plan":
         return _say("beyond.weight", value=value, most=_large(network.limits["over"]))
+    if part == "edits":
+        return _count_line(network, network.data["edits"][place[1]][1], value)
     if part == "arrangement" and place[1] == "on":
-        return _count_line(network, place, value)
+        return _count_line(network, network.data["arrangement"]["on"][place[2]][0], value)
     if part == "arrangement":
         return _say("beyond.price", value=value, most=_large(network.limits["price"]))
     return _say("beyond.numerator" if part == "outcome" else "beyond.claim", value=value)
 
 
-def _count_line(network: _Network, place: list[Any], value: str) -> str:
+def _count_line(network: _Network, name: str, value: str) -> str:
     """More units of a trade than it has, or fewer than none."""
-    name = network.data["arrangement"]["on"][place[2]][0]
     trade = next(each for each in network.trades if each["name"] == name)
     return _say("beyond.count", value=value, trade=_quoted(name), most=_large(int(trade.get("units", 1))))
 

@@ -32,7 +32,7 @@ class Parts:
     on: Optional[dict[str, Optional[int]]] = None  # by trade how many units, or all of them
     prices: Optional[dict[str, Fraction]] = None
     contracts: Optional[dict[str, Fraction]] = None
-    edits: Optional[list[tuple[str, str]]] = None
+    edits: Optional[list[tuple[Any, ...]]] = None
 
 
 class Writing:
@@ -50,7 +50,8 @@ class Writing:
         """The document, of the least version that has room for it."""
         units = {name: trade.units for name, trade in self.trades.items()}
         has_units = any(count > 1 for count in units.values()) or any(
-            isinstance(kind, kinds.Middleman) and kind.most > 1 for kind in self.firms.values())
+            isinstance(kind, kinds.Middleman) and kind.most > 1 for kind in self.firms.values()) or any(
+            len(edit) > 2 for edit in parts.edits or ())
         ends = {name: self.ends(name) for name in self.trades}
         firms = self.written_firms(Manner(self.unit, self.codes, units, has_units))
         version = version_for(self.needs(firms, sum(units.values()), has_units, len(parts.edits or ())))
@@ -138,7 +139,7 @@ class Writing:
                 raise Trouble(f"the prices that are signed are over {over}, and {MOST_OVER} is the most")
             yield "outcome", {"over": over, "contracts": self.entries(parts.contracts, self.unit / over)}
         if parts.edits is not None:
-            yield "edits", [[deed, self.named(deed, name)] for deed, name in parts.edits]
+            yield "edits", [[deed, self.named(deed, name), *units] for deed, name, *units in parts.edits]
 
     def named(self, deed: str, name: str) -> str:
         """What an edit is of."""
