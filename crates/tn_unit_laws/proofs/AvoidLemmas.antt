@@ -50,7 +50,8 @@ has_without trades counts u within below few = elim (cases_Bool (has first u)) [
       let found = missing (λ v. has first v && t == trade_of trades v) (λ v. t == trade_of trades v) (unit_count trades)
       (omega (arith, have, twins, few)) in
       let same : t ≡ trade_of trades found.at = eqb-true t (trade_of trades found.at) found.passes in
-      let off : has first found.at ≡ false = by (has first found.at) (t == trade_of trades found.at) found.passes found.fails in
+      let off : has first found.at ≡ false =
+      by (has first found.at) (t == trade_of trades found.at) found.passes found.fails in
       let other : u ≢ found.at = λ e. differ (sym on ∙ ap (has first) e ∙ off) in
       record {
         set = toggle (toggle first u) found.at;

@@ -231,7 +231,8 @@ one_left z w n u xs long below is =
 
 -- what is got beside the worths is at most what they lose
 holds : (w p b c gets l m k : ℤ) → (w +ℤ p) ≤ℤ (b +ℤ c) → c ≡ pos 0 → p ≡ gets → b ≤ℤ l → w ≡ m → m ≡ l -ℤ k → gets ≤ℤ k
-holds w p b c gets l m k below cancel paid_is most sum parts = omega (arith, ints, below, cancel, paid_is, most, sum, parts)
+holds w p b c gets l m k below cancel paid_is most sum parts =
+    omega (arith, ints, below, cancel, paid_is, most, sum, parts)
 
 turned : (price cost : ℤ) → neg_ℤ price ≤ℤ cost → neg_ℤ cost ≤ℤ price
 turned price cost most = omega (arith, ints, most)
@@ -252,9 +253,10 @@ losses_bound = record { above = above; below = below }
         let found = has_without trades bought u lose.bought_within inside (omega (arith, room, step)) in
         let network = fits_network firms trades fit in
         let have = has_with trades sold bought u found.set inside more found.counted found.without in
-        let best = equilibrium_is_efficient (unit_firms trades firms) (unit_trades trades) scale on prices network least equal in
-        let all = all_below firms trades fit (toggle found.set u) found.set sold bought have found.counted scale on prices equal
-        0 firms lose.worths best.0 (λ i f firm at is.
+        let best = equilibrium_is_efficient (unit_firms trades firms) (unit_trades trades) scale on prices network least
+        equal in
+        let all = all_below firms trades fit (toggle found.set u) found.set sold bought have found.counted scale on prices
+        equal 0 firms lose.worths best.0 (λ i f firm at is.
         let same : i ≡ f = omega (arith, at) in
         let here = ap (slice_get firms) (sym same) ∙ is in
         (here, lose.each f firm here ∙ ap (λ (j : ℕ). Some (lose.worths j)) (sym same))) best.1.is in
@@ -301,9 +303,10 @@ losses_bound = record { above = above; below = below }
         let found = has_without trades sold u lose.sold_within inside (omega (arith, room, step)) in
         let network = fits_network firms trades fit in
         let have = has_with trades bought sold u found.set inside more found.counted found.without in
-        let best = equilibrium_is_efficient (unit_firms trades firms) (unit_trades trades) scale on prices network least equal in
-        let all = all_below firms trades fit found.set (toggle found.set u) sold bought found.counted have scale on prices equal
-        0 firms lose.worths best.0 (λ i f firm at is.
+        let best = equilibrium_is_efficient (unit_firms trades firms) (unit_trades trades) scale on prices network least
+        equal in
+        let all = all_below firms trades fit found.set (toggle found.set u) sold bought found.counted have scale on prices
+        equal 0 firms lose.worths best.0 (λ i f firm at is.
         let same : i ≡ f = omega (arith, at) in
         let here = ap (slice_get firms) (sym same) ∙ is in
         (here, lose.each f firm here ∙ ap (λ (j : ℕ). Some (lose.worths j)) (sym same))) best.1.is in

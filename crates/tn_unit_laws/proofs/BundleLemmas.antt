@@ -45,7 +45,8 @@ place_next trades f u =
     ∙ by (nat_eq (trade_at trades (trade_of trades u)).seller f) (nat_eq (trade_at trades (trade_of trades u)).buyer f)
   where
     by : (sells buys : Bool)
-        → length (with_next f (cond sells (Some Sell) (cond buys (Some Buy) None)) (sides_of (first_unit_trades trades u) f))
+        → length (with_next f (cond sells (Some Sell) (cond buys (Some Buy) None))
+        (sides_of (first_unit_trades trades u) f))
         ≡ place_of trades f u + one (sells || buys)
     by true buys = length-append (sides_of (first_unit_trades trades u) f) (Sell ∷ [])
     by false true = length-append (sides_of (first_unit_trades trades u) f) (Buy ∷ [])

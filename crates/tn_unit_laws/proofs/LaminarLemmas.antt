@@ -337,8 +337,8 @@ module _ (market : UnitMarket) (is_market : IsUnitMarket market) (f : ℕ)
   exchanges : ExchangesOverPlaces (unit_firm trades f (firm_of market f))
   exchanges x y a b at_x at_y i is_place up =
       let law = meets-nested n buys (λ k. amount (at k)) (terms_of market.sets.items) are_nested in
-      let found = exchange_to_places nested law.0 law.1 x y a b (sym (worth_is x) ∙ at_x) (sym (worth_is y) ∙ at_y) i is_place
-      up in
+      let found = exchange_to_places nested law.0 law.1 x y a b (sym (worth_is x) ∙ at_x) (sym (worth_is y) ∙ at_y) i
+      is_place up in
       record {
         at = found.at;
         is_place = found.is_place;

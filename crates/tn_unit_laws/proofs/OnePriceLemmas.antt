@@ -151,15 +151,18 @@ module _ (firms : List CountFirm) (trades : List UnitTrade) (fit : FitByCounts f
       differ : true ≡ false → ⊥
       differ e = absurd (cc)
 
-      by : ((seller p ≡ true) × (buyer p ≡ false) × (buys p ≡ false)) ⊎ ((seller p ≡ false) × (buyer p ≡ true) × (buys p ≡ true))
-          → ((seller q ≡ true) × (buyer q ≡ false) × (buys q ≡ false)) ⊎ ((seller q ≡ false) × (buyer q ≡ true) × (buys q ≡ true))
+      by : ((seller p ≡ true) × (buyer p ≡ false) × (buys p ≡ false))
+          ⊎ ((seller p ≡ false) × (buyer p ≡ true) × (buys p ≡ true))
+          → ((seller q ≡ true) × (buyer q ≡ false) × (buys q ≡ false))
+          ⊎ ((seller q ≡ false) × (buyer q ≡ true) × (buys q ≡ true))
           → buys p ≡ buys q
       by (inl a) (inl b) = a.2 ∙ sym b.2
       by (inl a) (inr b) = absurd (differ (sym a.0 ∙ sells_alike ∙ b.0))
       by (inr a) (inl b) = absurd (differ (sym b.0 ∙ sym sells_alike ∙ a.0))
       by (inr a) (inr b) = a.2 ∙ sym b.2
 
-  alike_level : (x p q : ℕ) → has (buys_of (sides_of (unit_trades trades) f)) p ≡ has (buys_of (sides_of (unit_trades trades) f)) q
+  alike_level : (x p q : ℕ)
+      → has (buys_of (sides_of (unit_trades trades) f)) p ≡ has (buys_of (sides_of (unit_trades trades) f)) q
       → has x p ≡ has x q → trade_level (buys_of (sides_of (unit_trades trades) f)) x p
       ≡ trade_level (buys_of (sides_of (unit_trades trades) f)) x q
   unfolding trade_level
@@ -296,7 +299,8 @@ module _ (firms : List CountFirm) (trades : List UnitTrade) (fit : FitByCounts f
     best_again : HasBest (unit_trades trades) scale on others f (unit_firm trades f firm)
     best_again = (
       scale *ℤ mine.0 +ℤ paid others x,
-      (local_is_global (unit_firm trades f firm) own_bundles meets scale (prices_at (unit_trades trades) others f) from_zero x
+      (local_is_global (unit_firm trades f firm) own_bundles meets scale (prices_at (unit_trades trades) others f)
+          from_zero x
           (scale *ℤ mine.0 +ℤ paid others x)
           (ap (option_map (λ a. scale *ℤ a +ℤ paid others x)) mine.1)).1
           (record {
@@ -361,7 +365,8 @@ module _ (firms : List CountFirm) (trades : List UnitTrade) (fit : FitByCounts f
       member i inside = has-set_of (λ j. has on (own (unit_trades trades) f j)) (own_units trades f) i
           ∙ ap (λ (b : Bool). b && has on (own (unit_trades trades) f i)) (lt-ltb i (own_units trades f) inside)
 
-      same_trade : trade_of trades (own (unit_trades trades) f k) ≡ trade_of trades (own (unit_trades trades) f (place_of trades f v))
+      same_trade : trade_of trades (own (unit_trades trades) f k)
+          ≡ trade_of trades (own (unit_trades trades) f (place_of trades f v))
       same_trade = sym twins ∙ ap (trade_of trades) (sym there)
 
       other : has on u ≡ has on v → HasPartner (part (unit_trades trades) f (own_units trades f) on) k fits prices

@@ -101,7 +101,8 @@ NegativeCyclesBarUnitPrices = (market : UnitMarket) (links : List Link) (levels 
     → IsGain links levels lot first rest cost
     → (on : ℕ) → HasCounts market.trades.items on (sold_at market levels)
     → (scale : ℤ) (prices : ℕ → ℤ) → pos 1 ≤ℤ scale
-    → IsEquilibrium (unit_firms market.trades.items (firms_of market)) (unit_trades market.trades.items) scale on prices → ⊥
+    → IsEquilibrium (unit_firms market.trades.items (firms_of market)) (unit_trades market.trades.items) scale on prices
+    → ⊥
 
 -- of two twins in an equilibrium of the unit network one is on and one is off
 pub record AreTwinsApart (trades : List UnitTrade) (on a b : ℕ) : Type 0 where
@@ -135,9 +136,9 @@ pub record HasOneMore (trades : List UnitTrade) (t : ℕ) (more fewer : ℕ → 
   pub here : more t ≡ suc (fewer t)
   pub others : (k : ℕ) → k < length trades → k ≢ t → more k ≡ fewer k
 
--- what firms lose together, where one unit of a trade is sold that isn't bought, bounds the prices of all its twins from
--- above, in every equilibrium of the unit network, the same for twins or not; where one is bought that isn't sold, from
--- below
+-- what firms lose together, where one unit of a trade is sold that isn't bought, bounds the prices of all its twins
+-- from above, in every equilibrium of the unit network, the same for twins or not; where one is bought that isn't sold,
+-- from below
 pub record LossesBoundUnitPrices : Type 0 where
   pub above : (firms : List CountFirm) (trades : List UnitTrade) (counts sold bought : ℕ → ℕ) (cost : ℤ) (u : ℕ)
       → FitByCounts firms trades → IsEfficientByCounts firms trades counts
@@ -157,13 +158,15 @@ pub record LossesBoundUnitPrices : Type 0 where
 pub record AreGreatestOfTwins (trades : List UnitTrade) (prices ones : ℕ → ℤ) : Type 0 where
   pub most : (u : ℕ) → u < unit_count trades → prices u ≤ℤ ones (trade_of trades u)
   pub reached : (u : ℕ) → u < unit_count trades
-      → (v : ℕ) × (v < unit_count trades) × (trade_of trades v ≡ trade_of trades u) × (prices v ≡ ones (trade_of trades u))
+      → (v : ℕ) × (v < unit_count trades) × (trade_of trades v ≡ trade_of trades u)
+      × (prices v ≡ ones (trade_of trades u))
 
 -- or the least
 pub record AreLeastOfTwins (trades : List UnitTrade) (prices ones : ℕ → ℤ) : Type 0 where
   pub least : (u : ℕ) → u < unit_count trades → ones (trade_of trades u) ≤ℤ prices u
   pub reached : (u : ℕ) → u < unit_count trades
-      → (v : ℕ) × (v < unit_count trades) × (trade_of trades v ≡ trade_of trades u) × (prices v ≡ ones (trade_of trades u))
+      → (v : ℕ) × (v < unit_count trades) × (trade_of trades v ≡ trade_of trades u)
+      × (prices v ≡ ones (trade_of trades u))
 
 -- unit firms that meet exchange, and prices of unit trades at which a set is an equilibrium
 pub record HasUnitPrices (firms : List CountFirm) (trades : List UnitTrade) (scale : ℤ) (on : ℕ) (prices : ℕ → ℤ) : Type

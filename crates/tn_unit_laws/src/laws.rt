@@ -49,22 +49,23 @@ pub fn negative_cycles_bar_unit_prices()
     ensures { NegativeCyclesBarUnitPrices }
 {}
 
-/// In an equilibrium of the unit network, whatever its firms' exchange, twins of which one is on and one is off have the
-/// same price: the seller and the buyer may each take one for the other.
+/// In an equilibrium of the unit network, whatever its firms' exchange, twins of which one is on and one is off have
+/// the same price: the seller and the buyer may each take one for the other.
 pub fn twins_cost_the_same()
     ensures { TwinsCostTheSame }
 {}
 
-/// What firms lose together, where one unit of a trade is sold that isn't bought, is above the prices of all twins of the
-/// trade, in every equilibrium of the unit network; and where one is bought that isn't sold, the price of a twin and the
-/// loss together are at least nothing. Twins may have different prices there.
+/// What firms lose together, where one unit of a trade is sold that isn't bought, is at least the price of each twin of
+/// the trade, in every equilibrium of the unit network; and where one is bought that isn't sold, the price of a twin and
+/// the loss together are at least nothing. Twins may have different prices there.
 pub fn losses_bound_unit_prices()
     ensures { LossesBoundUnitPrices }
 {}
 
 /// Where the unit firms meet the exchange property, one price for the twins of a trade is enough: the greatest price
-/// among its twins, for each trade, and the least as well, is a price for all of them with the same set. Without it
-/// neither need be: of two units that are wanted only together, at 1 and 9, the price may be 5 for both, but no 9.
+/// among its twins, for each trade, is a price for all of them with the same set, and so is the least. Without it neither
+/// need be: two units that a buyer takes and a seller gives only together may go at 1 and 9, and at 5 and 5, but not at
+/// 9 and 9.
 pub fn one_price_is_enough()
     ensures { OnePriceIsEnough }
 {}

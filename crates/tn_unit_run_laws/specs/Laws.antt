@@ -62,8 +62,8 @@ pub record AnswersBarUnitPrices : Type 0 where
       → ReadsUnits bytes doc → SupportsCounts doc counts (Impossible f)
       → HaveNoUnitPrices (written_firms doc) doc.head.trades (count_in counts)
 
--- the lowest and the highest price that `range` answers of a trade are those of each of its twins over all equilibria of
--- the unit network, at whatever prices of other twins
+-- the lowest and the highest price that `range` answers of a trade are those of each of its twins over all equilibria
+-- of the unit network, at whatever prices of other twins
 pub record IsRangeOfUnit (firms : List CountFirm) (trades : List UnitTrade) (u : ℕ) (range : UnitRange) : Type 0 where
   pub lowest : IsLowest (unit_firms trades firms) (unit_trades trades) u range.low
   pub highest : IsHighest (unit_firms trades firms) (unit_trades trades) u range.high

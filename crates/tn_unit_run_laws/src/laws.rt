@@ -10,14 +10,14 @@ pub fn documents_make_unit_networks()
 {}
 
 /// The counts and prices that `solve` and `support` answer, and those that `check` calls an equilibrium, are one of the
-/// unit network: the first so many twins of each trade, at one price for twins, are an equilibrium there, no set of unit
-/// trades has more surplus, and no contracts, over any denominator, block it.
+/// unit network: the first so many twins of each trade, at one price for twins, are an equilibrium there, no set of
+/// unit trades has more surplus, and no contracts, over any denominator, block it.
 pub fn answers_are_stable_units()
     ensures { AnswersAreStableUnits }
 {}
 
-/// Where `support` answers a cycle, or a firm to which the counts are impossible, no prices of the unit network support a
-/// set with these counts, over any denominator, the same for twins or not.
+/// Where `support` answers a cycle, or a firm to which the counts are impossible, no prices of the unit network support
+/// a set with these counts, over any denominator, the same for twins or not.
 pub fn answers_bar_unit_prices()
     ensures { AnswersBarUnitPrices }
 {}
