@@ -35,6 +35,38 @@ use Rattle.tn_unit_laws.proofs.UnitLemmas.{comes_from}
 use Rattle.tn_unit_laws.proofs.MarketLemmas.{markets_fit}
 use Rattle.tn_unit_laws.proofs.PaymentLemmas.{side_at, sum_by_counts}
 
+-- ---- firms with the same worths
+
+abbrev pub with_worth : ℕ → ℕ → (ℕ → Option ℤ) → Firm
+with_worth count buys worth = record { count = count; buys = buys; worth = worth }
+
+-- exchange alike
+pub exchange_alike : (count buys : ℕ) (one other : ℕ → Option ℤ) → ((x : ℕ) → one x ≡ other x)
+    → HasOwnBundles (with_worth count buys other) × MeetsExchange (with_worth count buys other)
+    → HasOwnBundles (with_worth count buys one) × MeetsExchange (with_worth count buys one)
+exchange_alike count buys one other same law =
+    (own_ones, exchange_from_places (with_worth count buys one) own_ones exchanges)
+  where
+    own_ones : HasOwnBundles (with_worth count buys one)
+    own_ones x a at = law.0 x a (sym (same x) ∙ at)
+
+    exchanges : ExchangesOverPlaces (with_worth count buys one)
+    exchanges x y a b at_x at_y i is_place up =
+        let found = exchange_to_places (with_worth count buys other) law.0 law.1 x y a b (sym (same x) ∙ at_x)
+        (sym (same y) ∙ at_y) i is_place up in
+        record {
+          at = found.at;
+          is_place = found.is_place;
+          is_down = found.is_down;
+          enough = record {
+            first = found.enough.first;
+            second = found.enough.second;
+            first_is = same _ ∙ found.enough.first_is;
+            second_is = same _ ∙ found.enough.second_is;
+            enough = found.enough.enough;
+          };
+        }
+
 -- ---- net counts as sums
 
 -- one unit bought, or one sold
@@ -330,37 +362,14 @@ module _ (market : UnitMarket) (is_market : IsUnitMarket market) (f : ℕ)
     uncrossed = uncrossed market.sets.items is_market.laminar;
   }
 
-  own_bundles : HasOwnBundles (unit_firm trades f (firm_of market f))
-  own_bundles x a at_x = (meets-nested n buys (λ k. amount (at k)) (terms_of market.sets.items) are_nested).0 x a
-      (sym (worth_is x) ∙ at_x)
-
-  exchanges : ExchangesOverPlaces (unit_firm trades f (firm_of market f))
-  exchanges x y a b at_x at_y i is_place up =
-      let law = meets-nested n buys (λ k. amount (at k)) (terms_of market.sets.items) are_nested in
-      let found = exchange_to_places nested law.0 law.1 x y a b (sym (worth_is x) ∙ at_x) (sym (worth_is y) ∙ at_y) i
-      is_place up in
-      record {
-        at = found.at;
-        is_place = found.is_place;
-        is_down = found.is_down;
-        enough = record {
-          first = found.enough.first;
-          second = found.enough.second;
-          first_is = worth_is _ ∙ found.enough.first_is;
-          second_is = worth_is _ ∙ found.enough.second_is;
-          enough = found.enough.enough;
-        };
-      }
+  exchanges : HasOwnBundles (unit_firm trades f (firm_of market f)) × MeetsExchange (unit_firm trades f (firm_of market f))
+  exchanges = exchange_alike n buys (λ x. (unit_firm trades f (firm_of market f)).worth x) (λ x. nested.worth x) worth_is
+      (meets-nested n buys (λ k. amount (at k)) (terms_of market.sets.items) are_nested)
 
 pub markets_exchange : MarketsMeetExchange
 markets_exchange market is_market f unit at_f =
     let from = comes_from market.trades.items 0 (firms_of market) f f unit (omega arith) at_f in
     let here = firm_at market f from.firm from.is in
     let there : slice_get (firms_of market) f ≡ Some (firm_of market f) = from.is ∙ ap Some here.1 in
-    let own_ones = own_bundles market is_market f there in
     subst (λ (one : Firm). HasOwnBundles one × MeetsExchange one)
-    (ap (unit_firm market.trades.items f) (sym here.1) ∙ from.same) (
-      own_ones,
-      exchange_from_places (unit_firm market.trades.items f (firm_of market f)) own_ones
-          (exchanges market is_market f there),
-    )
+    (ap (unit_firm market.trades.items f) (sym here.1) ∙ from.same) (exchanges market is_market f there)

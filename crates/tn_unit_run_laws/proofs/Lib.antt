@@ -2,3 +2,4 @@
 pub mod WrittenLemmas
 pub mod AnswerLemmas
 pub mod RunLemmas
+pub mod ExchangeLemmas

@@ -4,11 +4,15 @@ use Rattle.tn_model.specs.declared.ends.Ends.{Ends}
 use Rattle.tn_model.specs.Network.{IsNetwork}
 use Rattle.tn_market.specs.Equilibrium.{IsEquilibrium}
 use Rattle.tn_market.specs.Ranges.{IsHighest, IsLowest}
+use Rattle.tn_network_laws.specs.Laws.{MeetExchange}
 use Rattle.tn_counts.specs.Counts.{CountFirm}
+use Rattle.tn_counts.specs.Markets.{IsUnitMarket}
+use Rattle.tn_counts.specs.declared.market.UnitMarket.{UnitMarket}
 use Rattle.tn_counts.specs.declared.trade.UnitTrade.{UnitTrade}
 use Rattle.tn_file.specs.Readings.{UnitExtra, any_reading_of, units}
 use Rattle.tn_file.specs.declared.command.Command.{Command}
 use Rattle.tn_read_units.specs.Firms.{UnitDocument}
+use Rattle.tn_read_units.specs.Laws.{HasItsWorths}
 use Rattle.tn_read_units.specs.Worths.{written_firms}
 use Rattle.tn_said.specs.declared.said.Said.TheVariants.{CycleByCounts, Equilibrium, Impossible, RangesByCounts, SolvedByCounts, SupportedByCounts}
 use Rattle.tn_said.specs.declared.units.UnitRange.{UnitRange}
@@ -74,3 +78,9 @@ RangesAreOfUnits = (bytes : List ℕ) (doc : UnitDocument) (counts : List ℕ) (
     → (u : ℕ) (range : UnitRange) → u < unit_count doc.head.trades
     → slice_get ranges (trade_of doc.head.trades u) ≡ Some range
     → IsRangeOfUnit (written_firms doc) doc.head.trades u range
+
+-- the unit firms of a document that is read, of which a market within the limits says the worths, meet exchange
+abbrev pub DocumentsMeetExchange : Type 0
+DocumentsMeetExchange = (bytes : List ℕ) (doc : UnitDocument) (market : UnitMarket) → ReadsUnits bytes doc
+    → IsUnitMarket market → market.trades.items ≡ doc.head.trades → HasItsWorths doc market
+    → MeetExchange (unit_firms doc.head.trades (written_firms doc))

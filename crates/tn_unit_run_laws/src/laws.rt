@@ -1,7 +1,7 @@
 //! Laws of the answers for documents whose trades have units. Each is the contract of a function with an empty body:
 //! calling it proves nothing more, and costs nothing.
 
-ghost use Rattle.tn_unit_run_laws.specs.Laws.{AnswersAreStableUnits, AnswersBarUnitPrices, DocumentsMakeUnitNetworks, RangesAreOfUnits};
+ghost use Rattle.tn_unit_run_laws.specs.Laws.{AnswersAreStableUnits, AnswersBarUnitPrices, DocumentsMakeUnitNetworks, DocumentsMeetExchange, RangesAreOfUnits};
 ghost use Rattle.tn_unit_run_laws.specs.Runs.{RunsSpeakOfUnits};
 
 /// Every document that is read whose trades have units makes a network of unit trades and unit firms.
@@ -33,4 +33,10 @@ pub fn ranges_are_of_units()
 /// of trades with units, they are those of each of its unit trades.
 pub fn runs_speak_of_units()
     ensures { RunsSpeakOfUnits }
+{}
+
+/// The unit firms of a document that is read meet the exchange property, where a market within the limits has the worths
+/// that the document says, as the one has that `market_of` makes of it.
+pub fn documents_meet_exchange()
+    ensures { DocumentsMeetExchange }
 {}

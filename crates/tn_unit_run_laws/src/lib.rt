@@ -7,5 +7,5 @@ mod laws;
 
 pub use laws::{
     answers_are_stable_units, answers_bar_unit_prices, documents_make_unit_networks,
-    ranges_are_of_units, runs_speak_of_units,
+    documents_meet_exchange, ranges_are_of_units, runs_speak_of_units,
 };
