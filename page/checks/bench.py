@@ -152,7 +152,7 @@ def label(trade_ends: str) -> str:
 def tries(page: Bench, program: str | None):
     """Each as a name, and whether it is so."""
     for part in (tries_to_guess, tries_by_finger, tries_of_refusals, tries_of_labels, tries_of_own_numbers, tries_of_ways, tries_of_undo, tries_to_solve, tries_of_ranges, tries_of_what_goes, tries_of_complements, tries_of_no_prices, tries_of_all_who_object, tries_of_reasons,
-                 tries_of_first_steps, tries_to_sign, tries_of_all_who_drop, tries_of_claims, tries_of_the_text, tries_to_open, tries_of_versions, tries_of_units, tries_to_print, tries_of_files, tries_of_size, tries_of_ill_will):
+                 tries_of_first_steps, tries_to_sign, tries_of_all_who_drop, tries_of_claims, tries_of_the_text, tries_to_open, tries_of_versions, tries_to_print, tries_of_files, tries_of_size, tries_of_ill_will):
         yield from part(page, program)
 
 
@@ -864,41 +864,6 @@ def tries_of_versions(page: Bench, program: str | None):
     page.browser.run(CHOSEN, "firm kind", "table" if kind != "table" else "laminar")
     page.click('[data-key="kind change"]')
     yield "or go", json.loads(page.text())["firms"][0]["kind"] != kind and "keep all" not in page.says("build-fields")
-    page.click("#tab-guess")
-
-
-# The texts of the cells of the table of units, row by row, and whether it is shown.
-COUNTED = """
-const rows = [...document.querySelectorAll("#counts tbody tr")].map((row) => [...row.children].map(({textContent}) => textContent));
-return [rows, document.getElementById("counts-part").checkVisibility()];"""
-
-
-def tries_of_units(page: Bench, program: str | None):
-    """What there is of a document whose trades have units: its text, and what the program answers."""
-    page.open("overtime.json", look.example("overtime.json"))
-    tabs = ["guess", "sign", "whatif", "claim", "build", "document", "answer"]
-    shown = [name for name in tabs if page.value("document.getElementById(arguments[0]).checkVisibility()", f"tab-{name}")]
-    yield "where trades have units there are the document and the answers", shown == ["document", "answer"]
-    yield "and it is said what is shut", "trades have units here" in page.says("verdict")
-    solved = asked(page, program, ["solve"], page.text())
-    told = page.ask("solve")
-    yield "an answer tells units", told["sentences"][1] == "Plant sells 140 units of p-d to Depot at 32 each."
-    wanted = [["p-d", "Plant", "Depot", "140", "150", "32"], ["d-a", "Depot", "A", "60", "100", "44"], ["d-b", "Depot", "B", "80", "100", "41"]]
-    yield "and has a table of them", solved["surplus"] == 3180 and page.browser.run(COUNTED) == [wanted, True]
-    yield "and none of them is a claim", not page.value("document.getElementById('answer-claim').checkVisibility()")
-    told = page.ask("range")
-    yield "a range is told by steps of one unit", any("one unit fewer of d-b" in sentence for sentence in told["sentences"])
-    yield "and has a table", page.browser.run(COUNTED) == [[[*row[:5], row[5], row[5]] for row in wanted], True]
-    told = page.ask("firms")
-    yield "what firms have is told in units", told["sentences"][1].startswith("Plant sells 140 units of p-d to Depot at 32 each: worth -3480")
-    yield "and has a table too", page.browser.run(COUNTED)[0][0] == ["Plant", "p-d: 140", "-3480", "1000", "", "0"]
-    page.ask("solve")
-    yield "it lies over the network", page.drawn()["lanes"]["p-d"]["isOn"] and "140 at 32" in page.drawn()["lanes"]["p-d"]["says"]
-    before = page.text()
-    page.click('[data-key="lane:Plant Depot"]')
-    yield "where a click changes nothing", page.text() == before
-    page.open("one-trade.json", look.example("one-trade.json"))
-    yield "another document has all views", page.value("document.getElementById('tab-build').checkVisibility()")
     page.click("#tab-guess")
 
 

@@ -1,6 +1,8 @@
 // What is likely not meant in a market: a firm without a trade, one that may sell the same thing several times, one that can do nothing with
 // what is bought, and a trade that nobody would ever want.
+import {hasUnits} from "./limits.js";
 import {entriesOf, isObject, itemsOf} from "./network.js";
+import {readSets, stepsOf} from "./steps.js";
 import {templateOf} from "./templates.js";
 
 /** What is no number: a trade that can't take place. */
@@ -10,8 +12,13 @@ const NEVER = Symbol("never");
 export function doubtsOf(network) {
     const firms = itemsOf(network.data.firms).filter((firm) => isObject(firm) && typeof firm.name === "string");
     const known = new Map(firms.map((firm) => [firm.name, {firm, own: network.ownTrades(firm.name)}]));
-    const doubts = [...known.values()].flatMap(({firm, own}) => ofFirm(firm, own)), done = new Set(doubts.map(({firm}) => firm));
+    const ofOne = hasUnits(network.data) ? ofUnitFirm : ofFirm, doubts = [...known.values()].flatMap(({firm, own}) => ofOne(firm, own)), done = new Set(doubts.map(({firm}) => firm));
     return [...doubts, ...network.trades.flatMap((trade) => ofTrade(known, trade)).filter(({firm}) => !done.has(firm))];
+}
+
+/** Where trades have units a firm may well sell to several. */
+function ofUnitFirm(firm, own) {
+    return own.length === 0 ? [{kind: "idle", firm: firm.name}] : [];
 }
 
 function ofFirm(firm, own) {
@@ -59,14 +66,21 @@ const KINDS = {laminar: mostInSets, table: mostInRows, middleman: mostOfMiddlema
 
 /** Each set adds at most its steepest step: for a purchase the first, for a sale the last one. */
 function mostInSets(firm, own, name) {
-    const {isSale} = own.find((trade) => trade.name === name), sets = setsOf(firm).filter(({trades}) => trades.includes(name));
-    const steps = sets.map(({trades, values}) => {
-        if (values.length > 1) return isSale ? values.at(-2) - values.at(-1) : values[1] - values[0];
+    const {isSale} = own.find((trade) => trade.name === name), sets = readSets(firm).filter(({trades}) => trades.includes(name));
+    const steps = sets.map((set) => {
+        const {trades} = set, most = steepest(set, isSale);
+        if (most !== null) return most;
         return own.some((trade) => trade.isSale !== isSale && trades.includes(trade.name)) ? null : NEVER;
     });
     if (steps.includes(NEVER)) return NEVER;
     const numbers = [entriesOf(firm.amounts).get(name) ?? 0n, ...steps];
     return numbers.every((number) => typeof number === "bigint") ? numbers.reduce((sum, number) => sum + number) : null;
+}
+
+/** The most that a unit more can add which is sold, or bought; null where none is possible in the set alone. */
+function steepest(set, isSale) {
+    const [side, other] = (isSale ? ["sold", "bought"] : ["bought", "sold"]).map((each) => stepsOf(set, each));
+    return other.length > 0 ? -other.at(-1)[1] : side.length > 0 ? side[0][1] : null;
 }
 
 function mostInRows(firm, own, name) {

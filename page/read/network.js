@@ -50,6 +50,12 @@ export class Network {
         return this.byFirm.get(firm) ?? [];
     }
 
+    /** How many units of a trade may go: one where the document says nothing else. */
+    capacity(name) {
+        this.capacities ??= new Map(itemsOf(this.data.trades).filter(isObject).map(({name: own, units}) => [own, typeof units === "bigint" ? units : 1n]));
+        return this.capacities.get(name) ?? 1n;
+    }
+
     /** The names of the firms that stand before one in the document. */
     before(firm) {
         const names = this.firms.map(({name}) => name);

@@ -3,17 +3,18 @@
 import {hasUnits} from "../read/limits.js";
 import {itemsOf, isObject} from "../read/network.js";
 import {say} from "../words/say.js";
-import {listed} from "./words.js";
+import {ownByUnits} from "./own_units.js";
+import {extentOf, listed} from "./words.js";
 
-/** What is said of a firm: `{short, whole}`, each a text; null where the document says nothing of it that could be told so, or has units. */
+/** What is said of a firm: `{lines, whole}`, lines for its box, and a text; null where the document says nothing of it that could be told so. */
 export function ownOf(network, name) {
-    if (hasUnits(network.data)) return null;
     const firm = firmAt(network, name), sides = sidesOf(network, name), tell = firm ? KINDS[firm.kind] : undefined;
+    if (tell && hasUnits(network.data)) return sides.all.length > 0 && firm.kind === "laminar" ? ownByUnits(network, firm, sides) : null;
     const parts = tell && sides.all.length > 0 ? tell(firm, sides) : [];
-    return parts.length === 0 ? null : {short: parts[0], whole: parts.join(", ")};
+    return parts.length === 0 ? null : {lines: parts.slice(0, 1), whole: parts.join(", ")};
 }
 
-/** What is said of each trade of a firm alone, by its name: from what it is sold, up to what is paid for it, or at which cost it is passed on. */
+/** What is said of each trade of a firm alone, by its name: from what it is sold, up to what is paid for it, or at which cost it is passed on; nothing where trades have units. */
 export function eachOf(network, name) {
     if (hasUnits(network.data)) return new Map();
     const firm = firmAt(network, name), sides = sidesOf(network, name), told = new Map();
@@ -47,13 +48,6 @@ function isMaker({sales, purchases}) {
 /** The entries of a list of `[trade, number]`. */
 function numbersOf(list) {
     return new Map(itemsOf(list).filter((entry) => Array.isArray(entry) && typeof entry[1] === "bigint").map(([trade, number]) => [trade, number]));
-}
-
-/** Numbers from the least to the greatest, once where they are one. */
-export function extentOf(numbers) {
-    const low = numbers.reduce((least, each) => (each < least ? each : least)), high = numbers.reduce((most, each) => (each > most ? each : most));
-    if (low === high) return String(low);
-    return low < 0n ? say("extent.from_to", {low, high}) : `${low}\u2013${high}`;
 }
 
 /** From what is sold, and up to what is paid for, each trade by itself; `worths` has those that are known. */

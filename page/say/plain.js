@@ -1,11 +1,12 @@
 // What a firm has, as people say it: what it gives up, pays and gets, and what it gains. The numbers are those of `firms`, or differences of them.
+import {nameOn} from "../read/standing.js";
 import {say} from "../words/say.js";
 import {listed} from "./words.js";
 
 /** A sentence of a line of `firms`; null where what the firm has is impossible. */
 export function plainLine({firm, has, worth, utility, gain, best_utility: most}, network) {
     if (worth === null) return null;
-    const isSeller = has.length > 0 && has.every((name) => network.trade(name).seller === firm);
+    const isSeller = has.length > 0 && has.every((entry) => network.trade(nameOn(entry)).seller === firm);
     const does = listed([...ofWorth(worth, isSeller), ...ofMoney(utility - worth), ofUtility(utility)]);
     return gain === 0n ? say("plain.line", {firm, does}) : say("plain.line_could", {firm, does, most});
 }

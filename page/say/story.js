@@ -16,8 +16,9 @@ export function contractOf(network, [name, price], over) {
 
 /**
  * The story of an answer, as `{head, steps}`, or null where there is none. A step is `{says, firms, trades, below}`: its sentence, the
- * firms that it is about, the part that each trade plays in it, by name, and what is said below the names of firms, as lines. `ask`
- * runs the program, which is asked for all numbers that the answer hasn't.
+ * firms that it is about, the part that each trade plays in it, by name, and what is said below the names of firms, as lines. Where
+ * trades have units the steps of a cycle have `units`, a Map from the trades that change to 1 or -1. `ask` runs the program, which is
+ * asked for all numbers that the answer hasn't.
  */
 export async function storyOf(network, said, ask) {
     return STORIES[said.answer]?.(network, said, ask) ?? null;
@@ -27,16 +28,21 @@ const STORIES = {cycle: cycleStory, impossible: impossibleStory, exchange_fails:
 
 async function cycleStory(network, {nodes, cost}, ask) {
     const on = itemsOf(network.arrangement.on), changes = changesAlong(network, on, [...nodes, nodes[0]]);
-    const known = await costs(ask, network, on, changes), below = new Map(), before = new Map();
+    const known = await costs(ask, network, on, changes), below = new Map(), before = new Map(), units = unitsIn(changes);
     const steps = changes.map((change, k) => {
         below.set(change.firm, known[k] === null ? [] : [costWord(known[k])]);
         const trades = new Map([...before, ...change.toggled.map((name) => [name, "change"])]);
         for (const name of change.toggled) before.set(name, "changed");
-        return {says: `${changeWith(change, known[k])}.`, firms: [change.firm], trades, below: new Map(below)};
+        return {says: `${changeWith(change, known[k])}.`, firms: [change.firm], trades, below: new Map(below), units};
     });
     const all = new Map([...before.keys()].map((name) => [name, "round"]));
-    const end = {says: say("story.round", {cost}), firms: changes.map(({firm}) => firm), trades: all, below};
+    const end = {says: say("story.round", {cost}), firms: changes.map(({firm}) => firm), trades: all, below, units};
     return {head: say("story.no_prices"), steps: [...steps, end]};
+}
+
+/** By how many units each trade of some changes changes, where trades have units. */
+function unitsIn(changes) {
+    return new Map(changes.flatMap(({acts}) => acts).filter(({by}) => by !== undefined).map(({trade, by}) => [trade, by]));
 }
 
 /** A cost in a word or two. */

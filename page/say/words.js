@@ -45,6 +45,13 @@ export function some(names) {
     return names.length <= MOST_NAMES ? listed(few) : say("list.more", {names: few.join(", "), rest: names.length - MOST_NAMES});
 }
 
+/** Numbers from the least to the greatest, once where they are one. */
+export function extentOf(numbers) {
+    const low = numbers.reduce((least, each) => (each < least ? each : least)), high = numbers.reduce((most, each) => (each > most ? each : most));
+    if (low === high) return String(low);
+    return low < 0n ? say("extent.from_to", {low, high}) : `${low}\u2013${high}`;
+}
+
 /** A whole number with its digits in threes. */
 export function large(number) {
     return String(number).replace(/\B(?=(\d{3})+(?!\d))/g, say("list.thousands"));

@@ -1,5 +1,6 @@
 // Changes of the text in its firms and trades. What is said of a trade or firm elsewhere goes along when that is renamed
 // or removed.
+import {hasUnits} from "../../read/limits.js";
 import {added, memberOf, put, replaced, without} from "./edits.js";
 
 /** What a name may be. */
@@ -63,11 +64,11 @@ export function firmAdded(network, text) {
     return another(network, "firms", text);
 }
 
-/** The edits that add a trade, with a price of 0 where others have one. */
+/** The edits that add a trade, with a price of 0 where others have one, and of one unit where trades have units. */
 export function tradeAdded(network, name, seller, buyer) {
     const [says, from, to] = [name, seller, buyer].map((each) => JSON.stringify(each));
     const prices = nodesAt(network.root, "arrangement prices").filter(({kind}) => kind === "list");
-    const text = `{"name":${says},"seller":${from},"buyer":${to}}`;
+    const text = `{"name":${says},"seller":${from},"buyer":${to}${hasUnits(network.data) ? ',"units":1' : ""}}`;
     return [...another(network, "trades", text), ...prices.map((list) => added(list, `[${says},0]`))];
 }
 

@@ -1,4 +1,5 @@
 // Changes of a document's text at its offsets: what takes place, and at which prices. All else of the text stays as it is.
+import {plain, written} from "../../read/json.js";
 
 /** A text with some edits `{start, end, text}`, which don't overlap. */
 export function applied(text, edits) {
@@ -26,6 +27,19 @@ export function turned(network, name, isOn) {
     return list.value.some(isIt) ? [] : [added(list, JSON.stringify(name))];
 }
 
+/** The edits that let some units of a trade go, or none. */
+export function sent(network, name, units) {
+    const arrangement = arrangementOf(network), entry = [name, BigInt(units)], isNone = entry[1] === 0n;
+    if (arrangement === null) return begun(network, isNone ? [] : [entry]);
+    const list = memberOf(arrangement, "on", "list");
+    if (list === null) return [withMember(arrangement, "on", written(isNone ? [] : [entry]))];
+    const isIt = ({kind, value}) => value === name || (kind === "list" && value[0]?.value === name), found = list.value.find(isIt);
+    if (isNone) return without(list, isIt);
+    const number = found?.kind === "list" ? found.value[1] : undefined;
+    if (number !== undefined) return replaced(number, String(units));
+    return found ? replaced(found, written(entry)) : [added(list, written(entry))];
+}
+
 /** The edits that give trades prices, by a Map from names to whole numbers in letters. */
 export function priced(network, prices) {
     const arrangement = arrangementOf(network);
@@ -43,13 +57,12 @@ export function priced(network, prices) {
     return missing.length === 0 ? edits : [...edits, added(list, missing.join(","))];
 }
 
-/** The edits that make an arrangement of some trades and prices; what is so already isn't touched. */
+/** The edits that make an arrangement of some trades, or entries of trades and their units, and prices; what is so already isn't touched. */
 export function arranged(network, on, prices) {
     const arrangement = arrangementOf(network);
     if (arrangement === null) return begun(network, on, prices);
-    const list = memberOf(arrangement, "on", "list"), now = list === null ? null : list.value.map(({value}) => value);
-    const isSame = now !== null && now.length === on.length && on.every((name) => now.includes(name));
-    const text = JSON.stringify(on);
+    const list = memberOf(arrangement, "on", "list"), text = written(on), now = list === null ? null : list.value.map((item) => written(plain(item)));
+    const isSame = now !== null && now.length === on.length && on.every((each) => now.includes(written(each)));
     const turning = isSame ? [] : [list === null ? withMember(arrangement, "on", text) : {start: list.start, end: list.end, text}];
     return [...turning, ...priced(network, prices)];
 }
@@ -77,7 +90,7 @@ export function memberOf(object, name, kind) {
 /** The edit that begins an arrangement at the end of a document; prices that aren't given are 0. */
 function begun(network, on, prices = new Map()) {
     if (!mayHaveArrangement(network)) return [];
-    return [withMember(network.root, "arrangement", `{"on":${JSON.stringify(on)},"prices":${entriesText(network, prices)}}`)];
+    return [withMember(network.root, "arrangement", `{"on":${written(on)},"prices":${entriesText(network, prices)}}`)];
 }
 
 function entriesText(network, prices) {

@@ -1,6 +1,8 @@
 // Changes of the text in a firm by the template that it is of, and what templates do where a trade comes or goes.
 import {plain, written} from "../../read/json.js";
+import {hasUnits} from "../../read/limits.js";
 import {Network} from "../../read/network.js";
+import {unitMembersOf, unitsGoingOn, unitTemplateOf} from "../../read/steps.js";
 import {amountFor, countedBy, goingOn, membersOf, setOf, sideOf, templateOf} from "../../read/templates.js";
 import {itemsIn, numbered, objectsIn, textAt} from "./building.js";
 import {added, applied, memberOf, put, replaced, without} from "./edits.js";
@@ -12,22 +14,37 @@ function ownOf(network, firm) {
 
 /** The template of a firm, with its numbers. */
 export function kindOf(network, firm) {
-    return templateOf(plain(firm), ownOf(network, firm));
+    const read = hasUnits(network.data) ? unitTemplateOf : templateOf;
+    return read(plain(firm), ownOf(network, firm));
+}
+
+/** The members of a firm that becomes one of a template, with the numbers that go along. */
+function membersFor(network, template, before, own) {
+    if (hasUnits(network.data)) return unitMembersOf(template, unitsGoingOn(template, before), own);
+    return membersOf(template, goingOn(template, before, own), own);
 }
 
 /** A new firm of a template, as text. */
-export function textOfNew(name, template) {
-    const members = membersOf(template, goingOn(template, {template: ""}, []), []);
-    return written({name, ...members});
+export function textOfNew(network, name, template) {
+    return written({name, ...membersFor(network, template, {template: "", numbers: null}, [])});
 }
 
 /** Whether something is said of a firm that another template wouldn't keep. */
 export function wouldLose(network, firm, template) {
     const before = kindOf(network, firm), hasSets = memberOf(firm, "sets", "list")?.value.length > 0;
+    if (hasUnits(network.data)) return unitsWouldGo(firm, before, template);
     const isKept = sideOf(template) !== null && (sideOf(before.template) === sideOf(template) || (before.template === "laminar" && !hasSets));
     const isListed = ["rows", "amounts", "costs", "gains", "pairs"].some((list) => memberOf(firm, list, "list")?.value.length > 0);
     const isSaid = isListed || firm.value.get("keep")?.kind === "number";
     return !isKept && (isSaid || (before.template === "laminar" ? hasSets : hasNumbers(before)));
+}
+
+/** The same where trades have units: a seller and a maker keep their steps as each other. */
+function unitsWouldGo(firm, {template: before, numbers}, template) {
+    const isAny = (list) => (memberOf(firm, list, "list")?.value.length ?? 0) > 0;
+    if (numbers === null) return isAny("amounts") || isAny("sets");
+    const isKept = unitsGoingOn(template, {template: before, numbers}) === numbers;
+    return !isKept && (isAny("amounts") || numbers.steps.some(([count, adds]) => count !== 1n || adds !== 0n));
 }
 
 function hasNumbers({numbers}) {
@@ -36,9 +53,9 @@ function hasNumbers({numbers}) {
 
 /** The edits that make a firm one of another template: its name and note stay, and those of its numbers that the template has. */
 export function asTemplate(network, firm, template) {
-    const own = ownOf(network, firm), before = templateOf(plain(firm), own);
+    const own = ownOf(network, firm), before = kindOf(network, firm);
     const each = new Map(itemsIn(firm, "amounts").map(({value: [name, number]}) => [name?.value, plain(number)]));
-    const members = membersOf(template, goingOn(template, {...before, each}, own), own);
+    const members = membersFor(network, template, {...before, each}, own);
     const kept = ["name", "note"].filter((name) => firm.value.has(name)).map((name) => {
         const {start, end} = firm.value.get(name);
         return `${JSON.stringify(name)}:${network.text.slice(start, end)}`;
@@ -53,10 +70,11 @@ function setPut(network, firm, {template, numbers}) {
     return [...put(set, "from", `${from}`), ...put(set, "values", written(values))];
 }
 
-/** The set whose numbers a template has: of a maker the one that isn't over all of its trades. */
-function countingSet(firm, template) {
+/** The set whose numbers, or steps, a template has: of a maker the one that isn't over all of its trades. */
+export function countingSet(firm, template) {
     const sets = (memberOf(firm, "sets", "list")?.value ?? []).filter(({kind}) => kind === "object");
-    const isWhole = (set) => sideOf(template) === "maker" && memberOf(set, "values", "list")?.value.length === 1;
+    const countOf = (set) => memberOf(set, set.value.has("from") ? "values" : "bought", "list")?.value.length ?? 0;
+    const isWhole = (set) => sideOf(template) === "maker" && countOf(set) === (set.value.has("from") ? 1 : 0);
     return sets.find((set) => !isWhole(set)) ?? null;
 }
 

@@ -73,7 +73,7 @@ export const ACTIONS = {
     /** The text of the document was edited. */
     typed: (value, text, mark = null) => text === value.document.text ? value : changed(value, withText(value.document, text, isMerged(value, mark)), mark),
     /** Some places of the text were changed, by the picture or a form. */
-    edited: (value, edits, mark = null) => isCounted(value) ? value : withRoom(value, ACTIONS.typed(value, applied(value.document.text, edits), mark)),
+    edited: (value, edits, mark = null) => withRoom(value, ACTIONS.typed(value, applied(value.document.text, edits), mark)),
     undone: (value) => value.past.length === 0 ? value : moved(value, value.past, value.future, (past, future) => ({past, future})),
     redone: (value) => value.future.length === 0 ? value : moved(value, value.future, value.past, (future, past) => ({past, future})),
     /** A lane, a firm or a bound was chosen, or nothing. */
@@ -154,9 +154,9 @@ const MODES = ["guess", "sign", "whatif"];
  */
 function panelFor(document, {panel, mode: before}) {
     if (!document.isWhole) return {};
-    const {data} = networkOf(document), isSigned = data.outcome !== undefined && (data.arrangement === undefined || before === "sign");
+    const {data} = networkOf(document), isPlain = !hasUnits(data), isSigned = isPlain && data.outcome !== undefined && (data.arrangement === undefined || before === "sign");
     const mode = isSigned ? "sign" : "guess";
-    return {mode, panel: ["build", "document", "answer"].includes(panel) ? panel : data.claim !== undefined ? "claim" : mode};
+    return {mode, panel: ["build", "document", "answer"].includes(panel) ? panel : isPlain && data.claim !== undefined ? "claim" : mode};
 }
 
 /**
@@ -185,7 +185,7 @@ function moved(value, from, to, named) {
 function documentOf(name, bytes) {
     const isWhole = bytes.length <= MOST_SHOWN, shown = isWhole ? bytes : bytes.subarray(0, BEGINNING);
     const text = new TextDecoder("utf-8", {ignoreBOM: true}).decode(shown), document = {name, bytes, text, isWhole, exercise: null, tries: 0};
-    document.exercise = isWhole && !isCounted({document}) ? exerciseIn(networkOf(document)) : null;
+    document.exercise = isWhole ? exerciseIn(networkOf(document)) : null;
     return document;
 }
 
@@ -209,17 +209,22 @@ function resultWith({text, ...result}, given) {
     return {...result, document, isGiven: isAsGiven(networkOf(document), given), verdict: null};
 }
 
-/** Whether trades have units: then the document and the answers to commands are looked at, and nothing else knows it. */
+/** Whether trades have units. */
 export function isCounted({document}) {
     return document.isWhole && hasUnits(networkOf(document).data);
 }
 
-/** The views of a document whose trades have units. */
-const COUNTED = ["document", "answer", "results"];
+/** The views that ask commands which don't answer documents whose trades have units, each with the key of what is said there instead. */
+const SHUT = {sign: "counted.sign", whatif: "counted.whatif", claim: "counted.claim"};
 
+/** The key of what is said in the place of the view, where it can't be of such a document; or null. */
+export function shutBy(value) {
+    return isCounted(value) ? SHUT[value.view.panel] ?? null : null;
+}
+
+/** Beside a view that is shut the network shows the guess. */
 function withUnits(value) {
-    const {view} = value, panel = COUNTED.includes(view.panel) ? view.panel : "answer", wanted = {panel, mode: "guess", hasRanges: false, hasReason: false};
-    return Object.entries(wanted).every(([name, each]) => view[name] === each) ? value : looked(value, wanted);
+    return value.view.mode in SHUT ? looked(value, {mode: "guess"}) : value;
 }
 
 /** The views that an easy page hasn't. */
@@ -227,11 +232,10 @@ const HARD = ["claim", "document", "answer"];
 
 /** What there is of an easy page; and what a pupil sees of an exercise: the view in which its goal is looked for, and nothing that would solve it. */
 function within(value) {
-    if (isCounted(value)) return withUnits(value);
-    const {document: {exercise}, view} = value;
-    if (exercise === null) return view.isEasy && HARD.includes(view.panel) ? looked(value, {panel: view.mode}) : value;
+    const known = isCounted(value) ? withUnits(value) : value, {document: {exercise}, view} = known;
+    if (exercise === null) return view.isEasy && HARD.includes(view.panel) ? looked(known, {panel: view.mode}) : known;
     const {panel} = GOALS[exercise.goal], wanted = {panel: view.panel === "results" ? "results" : panel, mode: panel, hasRanges: false, hasReason: false, isOver: false};
-    return Object.entries(wanted).every(([name, each]) => view[name] === each) ? value : looked(value, wanted);
+    return Object.entries(wanted).every(([name, each]) => view[name] === each) ? known : looked(known, wanted);
 }
 
 /** Whether two answers say the same. */

@@ -1,16 +1,31 @@
 // What takes place and at which prices, as a guess or as what is signed: read from the text, and changed in it.
 import {entriesOf, itemsOf} from "../../read/network.js";
-import {namesOn} from "../../read/standing.js";
+import {namesOn, unitsOf} from "../../read/standing.js";
 import {countedOver, outcomeOf, signed, signedAs, unsigned} from "./contracts.js";
-import {arranged, priced, turned} from "./edits.js";
-import {isOld, networkOf} from "./state.js";
+import {arranged, priced, sent, turned} from "./edits.js";
+import {isCounted, isOld, networkOf} from "./state.js";
 
-/** The names of the trades that take place, or are signed, and the price of each, of what is signed its numerator. */
+/**
+ * The names of the trades that take place, or are signed, and the price of each, of what is signed its numerator; where trades have
+ * units also how many of each go.
+ */
 export function termsOf({document, view}) {
-    const network = networkOf(document);
-    if (view.mode === "guess") return {on: new Set(namesOn(network.arrangement.on)), prices: entriesOf(network.arrangement.prices)};
+    const network = networkOf(document), {on, prices} = network.arrangement;
+    if (view.mode === "guess") return {on: new Set(namesOn(on)), prices: entriesOf(prices), units: isCounted({document}) ? unitsOf(on) : null};
     const {contracts} = outcomeOf(network);
-    return {on: new Set(contracts.keys()), prices: contracts};
+    return {on: new Set(contracts.keys()), prices: contracts, units: null};
+}
+
+/** How many units of a trade go in the guess. */
+export function countOf(value, trade) {
+    const count = termsOf(value).units?.get(trade);
+    return typeof count === "bigint" ? count : 0n;
+}
+
+/** Lets so many units of a trade go, but no fewer than none, and no more than it has. */
+export function setCount(store, trade, count, mark = null) {
+    const network = networkOf(store.value.document), most = network.capacity(trade), units = count < 0n ? 0n : count > most ? most : count;
+    if (units !== countOf(store.value, trade)) store.act("edited", sent(network, trade, units), mark);
 }
 
 /** The price of a trade as a whole number; of one that isn't signed, that of the guess; 0 where it has none. */
@@ -32,17 +47,23 @@ export function setPrice(store, trade, price, mark = null) {
     store.act("edited", change(networkOf(store.value.document), new Map([[trade, String(price)]])), mark);
 }
 
-/** Turns a trade on or off by a change of the text, or signs it or takes its contract away. */
+/** Turns a trade on or off by a change of the text, all of its units where it has some; or signs it or takes its contract away. */
 export function turn(store, trade, isOn = !termsOf(store.value).on.has(trade)) {
     const network = networkOf(store.value.document);
+    if (isCounted(store.value)) return store.act("edited", sent(network, trade, isOn ? network.capacity(trade) : 0n));
     if (store.value.view.mode === "guess") return store.act("edited", turned(network, trade, isOn));
     return store.act("edited", isOn ? signed(network, new Map([[trade, String(priceOf(store.value, trade))]])) : unsigned(network, trade));
 }
 
-/** Makes a guess of some trades and prices; changes with one mark are taken back together. */
+/** Makes a guess of some trades, or entries of trades and their units, and prices; changes with one mark are taken back together. */
 export function arrange(store, names, prices, mark = null) {
     const inLetters = new Map(prices.map(([name, price]) => [name, String(price)]));
     store.act("edited", arranged(networkOf(store.value.document), names, inLetters), mark);
+}
+
+/** Gives the trades of the guess other prices. */
+export function reprice(store, prices) {
+    store.act("edited", priced(networkOf(store.value.document), new Map(prices.map(([name, price]) => [name, String(price)]))));
 }
 
 /** Signs what takes place in the guess, at its prices, over the denominator that is there. */

@@ -1,5 +1,5 @@
 // By which version of the format a document may have what stands in it.
-import {limitsOf, VERSIONS} from "../../read/limits.js";
+import {limitsOf, UNIT_LIMITS, UNIT_VERSION, VERSIONS} from "../../read/limits.js";
 import {itemsOf, isObject} from "../../read/network.js";
 import {memberOf, replaced} from "./edits.js";
 
@@ -28,4 +28,17 @@ export function raised(network) {
     if (version === null || !VERSIONS.has(now) || fits(limitsOf(network))) return [];
     const next = [...VERSIONS].find(([name, limits]) => name > now && fits(limits));
     return next ? replaced(version, String(next[0])) : [];
+}
+
+/** Whether the trades of a document can be given units: its version has none, all its firms are laminar, and no number is too large then. */
+export function mayHaveUnits(network) {
+    const {data} = network, extent = extentOf(network), isWithin = (name) => extent[name] <= UNIT_LIMITS[name];
+    return VERSIONS.has(data.version) && network.firms.every(({kind}) => kind === "laminar") && ["most", "values", "farthest", "amount"].every(isWithin);
+}
+
+/** The edits that make it a document whose trades have units, one each at first. */
+export function withUnits(network) {
+    const arrangement = memberOf(network.root, "arrangement", "object"), on = arrangement === null ? null : memberOf(arrangement, "on", "list");
+    const entries = (on?.value ?? []).filter(({kind}) => kind === "text").flatMap((item) => replaced(item, `[${JSON.stringify(item.value)},1]`));
+    return [...replaced(memberOf(network.root, "version", "number"), String(UNIT_VERSION)), ...entries];
 }

@@ -1,6 +1,7 @@
 // Exercises and their results. A document is an exercise where its note says so; a result is a small file with the document
 // as a pupil leaves it.
 import {NotJson, parse, plain, written} from "../../read/json.js";
+import {hasUnits} from "../../read/limits.js";
 import {objectOf} from "../../read/network.js";
 import {memberOf, put} from "../document/edits.js";
 
@@ -13,10 +14,15 @@ export const GOALS = {
     lasts: {command: "judge", panel: "sign", says: "exercise.lasts"},
 };
 
+/** Whether a document may have a goal: where trades have units nothing is signed. */
+export function mayBe(network, goal) {
+    return Object.hasOwn(GOALS, goal) && !(goal === "lasts" && hasUnits(network.data));
+}
+
 /** The exercise that a document is, as `{title, goal}`, or null: these stand in its note as `exercise` and `goal`. */
 export function exerciseIn(network) {
     const {exercise, goal} = objectOf(network.data.note);
-    return typeof exercise === "string" && Object.hasOwn(GOALS, goal) ? {title: exercise, goal} : null;
+    return typeof exercise === "string" && mayBe(network, goal) ? {title: exercise, goal} : null;
 }
 
 /** The edits that make a document an exercise; a note that it has stays within the new one. */

@@ -4,7 +4,7 @@ import {say} from "../../words/say.js";
 import {networkOf} from "../document/state.js";
 import {offer, on, part, write} from "../shell/page.js";
 import {forgetDone} from "./begun.js";
-import {exerciseIn, exerciseMade, GOALS, resultText} from "./exercise.js";
+import {exerciseIn, exerciseMade, GOALS, mayBe, resultText} from "./exercise.js";
 import {resultFragment, resultsIn} from "../sharing/link.js";
 import {showLink} from "../sharing/links.js";
 import {copyTable, saveTable} from "../sharing/tables.js";
@@ -59,7 +59,8 @@ function stemOf(name) {
 
 function bindMaker(store) {
     on("make", () => {
-        const {title, goal} = exerciseIn(networkOf(store.value.document)) ?? {title: "", goal: "equilibrium"};
+        const network = networkOf(store.value.document), {title, goal} = exerciseIn(network) ?? {title: "", goal: "equilibrium"};
+        for (const option of part("maker-goal").options) option.disabled = !mayBe(network, option.value);
         part("maker").hidden = false;
         part("maker-title").value = title;
         part("maker-goal").value = goal;

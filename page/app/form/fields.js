@@ -1,6 +1,6 @@
 // A form for the firms and trades of a document, as plain data: what can be put in, what stands there, and by which changes
 // of the text. One firm is shown at a time, and all trades.
-import {limitsOf} from "../../read/limits.js";
+import {hasUnits, limitsOf} from "../../read/limits.js";
 import {say} from "../../words/say.js";
 import {
     firmAdded, firmRemoved, freeName, itemAdded, itemRemoved, itemsIn, moved, numbered, objectsIn,
@@ -8,10 +8,12 @@ import {
 } from "../document/building.js";
 import {memberOf, put, replaced} from "../document/edits.js";
 import {asTemplate, kindOf, settled, textOfNew, wouldLose} from "../document/kinds.js";
+import {mayHaveUnits, withUnits} from "../document/versions.js";
 import {doubtsGroup} from "./doubts.js";
 import {doesOf, templateParts, templatesFor} from "./kinds.js";
 import {calledBy, shownName, whyNoName} from "./naming.js";
 import {between, box, button, choice, number} from "./parts.js";
+import {freshSteps, setSteps, stepParts, unitsField} from "./units.js";
 
 /** How many rows of a table, and beyond how many trades only those of the firm, are in the form. */
 const MOST_ROWS = 40, MOST_TRADES = 160;
@@ -38,8 +40,9 @@ function nameOf(key, keys, network, list, node, names) {
         why: (text) => whyNoName(text, others), put: (text) => calledBy(network, list, node, text, others)};
 }
 
-/** What may be added at once, each with the first letter of its name; other kinds are chosen then. */
+/** What may be added at once, each with the first letter of its name; other kinds are chosen then. Where trades have units all are by steps. */
 const ADDED = [["seller-one", "S", "form.add_seller"], ["buyer-one", "B", "form.add_buyer"], ["middleman", "M", "form.add_middleman"]];
+const BY_STEPS = {"seller-one": "seller-many", "buyer-one": "buyer-many", middleman: "maker"};
 
 /** How another firm is looked at. */
 const ANEW = {ends: {}, isFree: false};
@@ -48,7 +51,7 @@ function firmsGroup(network, names, place) {
     const options = names.map((name, k) => [`${k}`, name]);
     const add = ADDED.map(([template, letter, says]) => ({
         ...button(`${template} add`, say(says), say(says),
-            () => firmAdded(network, textOfNew(freeName(names, letter, String), template))),
+            () => firmAdded(network, textOfNew(network, freeName(names, letter, String), hasUnits(network.data) ? BY_STEPS[template] : template))),
         then: {...ANEW, built: names.length}}));
     const pick = choice("firm", say("head.firm"), say("head.firm"), `${place}`, options,
         {look: (built) => ({...ANEW, built: Number(built)})});
@@ -61,11 +64,11 @@ function ofFirm(network, {node, name}, names, asked, isFree) {
     const remove = () => firmRemoved(network, node), own = network.ownTrades(name);
     const head = [
         nameOf("firm name", ["head.name", "form.name_of"], network, "firms", node, names),
-        {...choice("firm kind", say("form.kind"), say("form.kind"), kind.template, templatesFor(own)), ...kindChosen(network, node, known)},
+        {...choice("firm kind", say("form.kind"), say("form.kind"), kind.template, templatesFor(own, hasUnits(network.data))), ...kindChosen(network, node, known)},
         button("firm out", say("form.remove_it"), say("form.remove_firm", {name}), remove)];
-    const hint = [doesOf(kind, own), ...(own.length === 0 ? [say("form.no_trades")] : [])].join(" ");
+    const hint = [doesOf(kind, own, hasUnits(network.data)), ...(own.length === 0 ? [say("form.no_trades")] : [])].join(" ");
     const ofFormat = own.length === 0 ? [] : PARTS[kind.template]?.(network, node, own) ?? [];
-    const parts = kind.numbers === null ? ofFormat : templateParts(network, node, own, kind);
+    const parts = kind.numbers === null ? ofFormat : (hasUnits(network.data) ? stepParts : templateParts)(network, node, own, kind);
     const lines = [{key: "head", controls: head}, ...(asked?.of === network.text && asked.kind !== kind.template ? [askedLine(network, node, asked.kind)] : [])];
     return [{key: "firm", title: say("form.the_firm", {name}), hint, lines}, ...parts];
 }
@@ -145,14 +148,14 @@ function entries(firm, list, trades, what) {
 }
 
 function laminarParts(network, firm, own) {
-    const sets = (memberOf(firm, "sets", "list")?.value ?? []).filter(({kind}) => kind === "object");
+    const sets = (memberOf(firm, "sets", "list")?.value ?? []).filter(({kind}) => kind === "object"), isByUnits = hasUnits(network.data);
     const amounts = {key: "amounts", controls: entries(firm, "amounts", own, "form.amount_of")};
     const add = button("set add", say("form.add_set"), say("form.add_set"),
-        () => itemAdded(firm, "sets", freshSet(own)));
+        () => itemAdded(firm, "sets", (isByUnits ? freshSteps : freshSet)(own)));
     return [
         {key: "amounts", title: say("form.amounts"), hint: say("form.of_amounts"), lines: [amounts]},
         ...sets.map((set, k) => setGroup(network, firm, own, set, k)),
-        {key: "set add", title: say("form.sets"), hint: say("form.of_sets"),
+        {key: "set add", title: say("form.sets"), hint: say(isByUnits ? "form.of_unit_sets" : "form.of_sets"),
             lines: [{key: "set add", controls: [add]}]}];
 }
 
@@ -164,21 +167,26 @@ function freshSet(own) {
 }
 
 function setGroup(network, firm, own, set, k) {
-    const list = memberOf(set, "trades", "list"), values = memberOf(set, "values", "list")?.value ?? [], key = `set ${k}`;
-    const from = Number(memberOf(set, "from", "number")?.value.text ?? 0);
+    const list = memberOf(set, "trades", "list"), key = `set ${k}`, isBySteps = hasUnits(network.data) && !set.value.has("from");
     const boxes = own.map(({name}) => box(`${key} ${name}`, name, say("form.in_set", {name, set: k + 1}),
         list !== null && namesIn(list).includes(name), (isIn) => toggled(list, name, isIn)));
-    const numbers = values.map((value, place) => {
-        const says = counted(from + place), now = network.text.slice(value.start, value.end);
-        return number(`${key} number ${place}`, says, say("form.set_count", {set: k + 1, count: says}), now,
-            (text) => replaced(value, text));
-    });
     const out = button(`${key} out`, say("form.remove_it"), say("form.remove_set", {set: k + 1}),
         () => itemRemoved(firm, "sets", set));
     return {key, title: say("form.set", {set: k + 1}), lines: [
         {key: "trades", says: say("page.trades"), controls: list === null ? [] : boxes},
-        {key: "counts", says: say("form.counts"), controls: setEnds(network, set, k, from, from + values.length - 1)},
-        {key: "numbers", says: say("form.numbers"), controls: numbers}, {key: "out", controls: [out]}]};
+        ...(isBySteps ? setSteps(set, k) : setNumbers(network, set, k)), {key: "out", controls: [out]}]};
+}
+
+/** The counts of a set, and a number for each. */
+function setNumbers(network, set, k) {
+    const values = memberOf(set, "values", "list")?.value ?? [], from = Number(memberOf(set, "from", "number")?.value.text ?? 0);
+    const numbers = values.map((value, place) => {
+        const says = counted(from + place), now = network.text.slice(value.start, value.end);
+        return number(`set ${k} number ${place}`, says, say("form.set_count", {set: k + 1, count: says}), now,
+            (text) => replaced(value, text));
+    });
+    return [{key: "counts", says: say("form.counts"), controls: setEnds(network, set, k, from, from + values.length - 1)},
+        {key: "numbers", says: say("form.numbers"), controls: numbers}];
 }
 
 /** The least and the greatest net count of a set; 0 stays between them. */
@@ -238,7 +246,8 @@ function tradesGroup(network, names, here, ends) {
     const left = isAll ? "" : say("form.of_trades", {count: trades.length});
     const hint = names.length < 2 ? say("form.two_firms") : left;
     const added = names.length < 2 ? [] : [newTrade(network, names, all, here, ends)];
-    return {key: "trades", title: say("page.trades"), hint, lines: [...lines, ...added]};
+    const units = mayHaveUnits(network) ? [{key: "units", controls: [button("units", say("form.give_units"), say("form.give_units"), () => withUnits(network))]}] : [];
+    return {key: "trades", title: say("page.trades"), hint, lines: [...lines, ...added, ...units]};
 }
 
 function tradeLine(network, {node, name}, k, names, all) {
@@ -249,6 +258,7 @@ function tradeLine(network, {node, name}, k, names, all) {
     return {key: `trade ${k}`, controls: [
         nameOf(`trade ${k} name`, ["head.trade", "form.trade_of"], network, "trades", node, all),
         end("seller", ["form.from", "form.trade_from"]), end("buyer", ["form.to", "form.trade_to"]),
+        ...(hasUnits(network.data) ? [unitsField(network, node, name, k)] : []),
         button(`trade ${k} out`, say("form.remove"), say("form.remove_trade", {name}),
             () => tradesRemoved(network, [node]))]};
 }

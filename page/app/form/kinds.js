@@ -1,7 +1,8 @@
 // What the form has of a firm by its template: which ones it may be, what it does, and the numbers of sellers, buyers and makers.
 import {limitsOf} from "../../read/limits.js";
+import {asSaid, UNIT_TEMPLATES} from "../../read/steps.js";
 import {leastOf, ofTrade, sideOf, TEMPLATES, withCount, withStep} from "../../read/templates.js";
-import {extentOf} from "../../say/own.js";
+import {extentOf} from "../../say/words.js";
 import {say} from "../../words/say.js";
 import {eachPut, firstPut, furtherPut} from "../document/kinds.js";
 import {between, number} from "./parts.js";
@@ -22,17 +23,26 @@ const ASKS = {
 };
 
 /** The templates that a firm may be of, by its trades, as options. */
-export function templatesFor(own) {
+export function templatesFor(own, isByUnits) {
     const has = (isSale) => own.some((trade) => trade.isSale === isSale);
     const isRight = (template) => !(template.startsWith("seller") && has(false)) && !(template.startsWith("buyer") && has(true));
-    return TEMPLATES.filter(isRight).map((template) => [template, say(SAYS[template][0])]);
+    return (isByUnits ? UNIT_TEMPLATES : TEMPLATES).filter(isRight).map((template) => [template, say(SAYS[template][0])]);
 }
 
 /** In one line what a firm does. */
-export function doesOf({template, numbers}, own) {
+export function doesOf({template, numbers}, own, isByUnits) {
     if (!(template in SAYS)) return "";
+    if (isByUnits) return doesBySteps(template, numbers, own);
     const most = numbers === null ? 0 : numbers.further.length + 1;
     return say(SAYS[template][1], {most, price: numbers === null ? "" : priceOf({template, numbers}, own)});
+}
+
+/** The same of a firm by steps: how many units it sells, buys or makes at most, and what each of the first ones costs or is worth. */
+function doesBySteps(template, numbers, own) {
+    if (numbers === null) return template === "laminar" ? say("does.units") : "";
+    const {steps, each} = numbers, [[, adds]] = steps, most = steps.reduce((sum, [count]) => sum + count, 0n);
+    const first = template === "maker" || own.length === 0 ? [adds] : own.map(({name}) => adds + (each.get(name) ?? 0n));
+    return say(SAYS[template][1], {most, price: extentOf(first.map((number) => asSaid(template, number)))});
 }
 
 /** What the first unit costs or is worth: one number, or from the least to the greatest. */

@@ -1,6 +1,7 @@
 // Pointer and keys on the network: a click turns a trade on or off, a drag gives it a price, and elsewhere moves the picture. A finger
 // that is drawn over it scrolls the page, or moves the picture to a side, and changes no price; the buttons of the chosen trade do.
-import {priceOf, setPrice, turn} from "../document/terms.js";
+import {isCounted} from "../document/state.js";
+import {countOf, priceOf, setCount, setPrice, turn} from "../document/terms.js";
 import {part} from "../shell/page.js";
 import {suppose} from "../whatif/suppose.js";
 import {lookedBy, panned, zoomIn, zoomOut} from "./scene.js";
@@ -71,7 +72,7 @@ function onlyTrade(key) {
     return trades.length === 1 ? trades[0] : null;
 }
 
-/** A step of a price by its size: 1 below a hundred, 10 below ten thousand, and so on. */
+/** A step of a price, or of units, by its size: 1 below a hundred, 10 below ten thousand, and so on. */
 function stepOf(price, isFine) {
     const digits = String(price < 0n ? -price : price).length;
     return isFine ? 1n : 10n ** BigInt(Math.max(0, Math.ceil(digits / 2) - 1));
@@ -86,6 +87,17 @@ export function nudged({view, selection}) {
 export function nudge(store, by) {
     const trade = nudged(store.value), price = trade === null ? 0n : priceOf(store.value, trade);
     if (trade !== null) setPrice(store, trade, price + by * stepOf(price, false), `nudge of ${trade}`);
+}
+
+/** Lets a step more or fewer units of the chosen trade go. */
+export function nudgeUnits(store, by) {
+    const trade = nudged(store.value);
+    if (trade !== null) addUnits(store, trade, by, false, `units of ${trade}`);
+}
+
+function addUnits(store, trade, by, isFine, mark = null) {
+    const count = countOf(store.value, trade);
+    setCount(store, trade, count + by * stepOf(count, isFine), mark);
 }
 
 function dragPrice(store, {trade, price, mark, key}, steps, isFine) {
@@ -122,6 +134,11 @@ function pressed(store, event, type) {
     if (/^[-\d]$/.test(event.key)) {
         choose(store, key, false);
         return type(trade, event.key), true;
+    }
+    const units = isCounted(store.value) ? {ArrowRight: 1n, ArrowLeft: -1n}[event.key] : undefined;
+    if (units !== undefined) {
+        choose(store, key, false);
+        return addUnits(store, trade, units, event.shiftKey), true;
     }
     const steps = {ArrowUp: 1n, ArrowDown: -1n}[event.key];
     if (steps === undefined) return false;

@@ -1,9 +1,10 @@
 // The network in the page: what it shows of the value, and its window, which is moved and made smaller.
 import {BOTH, COME, FIRST, GONE, SECOND} from "../../draw/svg.js";
+import {hasUnits} from "../../read/limits.js";
 import {fraction} from "../../read/network.js";
-import {standing} from "../../read/standing.js";
+import {nameOn, standing, unitsOf} from "../../read/standing.js";
 import {say} from "../../words/say.js";
-import {isCounted, isOld, networkOf} from "../document/state.js";
+import {isOld, networkOf} from "../document/state.js";
 import {drawing, keepingFocus, part, write} from "../shell/page.js";
 import {stepOf} from "../told/story.js";
 import {supposedScene} from "../whatif/difference.js";
@@ -67,8 +68,8 @@ export function neighbourhood({document, view, selection}) {
 }
 
 function legendOf(network, firm, {marks, stands, signs: own}) {
-    const said = [...new Set([...marks.values()].map(({says}) => says))],
-        signs = own ?? say(stands.isSigned ? "legend.signed" : "legend.guess");
+    const said = [...new Set([...marks.values()].map(({says}) => says))], guess = hasUnits(network.data) ? "legend.units" : "legend.guess",
+        signs = own ?? say(stands.isSigned ? "legend.signed" : guess);
     const coloured = own || said.length === 0 ? signs : say("legend.coloured", {signs, marks: said.join("; ")});
     return firm === null ? coloured : say("legend.one_firm", {firm, legend: coloured});
 }
@@ -78,26 +79,16 @@ function sceneOf(value) {
     if (value.view.mode === "whatif") return supposedScene(value);
     const {document, guess, answer, view} = value, network = networkOf(document), shown = stepOf(value);
     const isOver = view.isOver && answer?.said?.answer === "solved" && !isOld(value, answer);
-    const told = !isOver && !isCounted(value) && guess?.said?.answer === "firms" ? guess.said.firms : [];
+    const told = !isOver && guess?.said?.answer === "firms" ? guess.said.firms : [];
     const lines = view.mode === "sign" ? signedLines(value) : new Map(told.map((line) => [line.firm, line]));
     const isStory = shown !== null && (view.mode === "sign" || !["firm", "bound"].includes(value.selection?.kind));
-    const marks = isStory ? rolesOf(shown.step.trades) : marksOf(value, lines);
+    const marks = isStory ? rolesOf(shown.step) : marksOf(value, lines);
     for (const [firm, below] of shown?.step.below ?? []) {
         lines.set(firm, {firm, below, mood: moodNow(view, lines.get(firm)), says: below.join(", ")});
     }
-    const stands = view.mode === "sign" ? signedStands(value, shown) : countedStands(standing(network, isOver ? answer.said : {}));
+    const stands = view.mode === "sign" ? signedStands(value, shown) : standing(network, isOver ? answer.said : {});
     const focus = new Set(shown?.step.firms ?? []);
     return {stands, lines, marks, focus, isOver, key: [view.mode, shown?.place, isOver, isOver ? answer.text : null]};
-}
-
-/** What takes place, where units are told with how many go beside each price. */
-function countedStands(stands) {
-    const {units = new Map(), prices} = stands, told = [...prices].map(([name, price]) => [name, unitsAt(units.get(name), price)]);
-    return units.size === 0 ? stands : {...stands, prices: new Map(told)};
-}
-
-function unitsAt(count, price) {
-    return count === undefined ? price : say("picture.units", {count, price});
 }
 
 /** Who is told to have something better objects to what is signed; in a guess the prices say who objects. */
@@ -148,25 +139,34 @@ const ROLES = {
     chain: {ink: FIRST, says: "role.chain", width: 3}, left: {ink: GONE, says: "role.left"},
 };
 
-/** The marks of trades that play parts in a step. */
-function rolesOf(trades) {
-    return new Map([...trades].map(([name, role]) => [name, {...ROLES[role], says: say(ROLES[role].says)}]));
+/** The marks of trades that play parts in a step; of those that change by a unit with what comes or goes. */
+function rolesOf({trades, units = new Map()}) {
+    const signOf = (name) => units.has(name) ? {sign: units.get(name) > 0n ? "+1" : "\u22121"} : {};
+    return new Map([...trades].map(([name, role]) => [name, {...ROLES[role], ...signOf(name), says: say(ROLES[role].says)}]));
 }
 
 /** The trades in colour: those that a chosen firm would rather have, or those of the path that holds a chosen bound. */
 function marksOf({selection, ranges}, lines) {
     const line = selection?.kind === "firm" ? lines.get(selection.name) : null;
     const rather = {ink: FIRST, says: say("mark.rather", {firm: line?.firm ?? ""})};
-    if (line?.best && line.gain !== 0n) return new Map(line.best.map((name) => [name, rather]));
+    if (line?.best && line.gain !== 0n) return new Map(ratherOf(line).map(([name, counts]) => [name, {...rather, counts}]));
     const range = selection?.kind === "bound" && ranges?.said?.ranges?.find(({trade}) => trade === selection.trade);
     return range ? marksOfPath(range, selection.side === "high") : new Map();
+}
+
+/** The trades that a firm would rather have; where they have units those of which it would have other counts, with these. */
+function ratherOf({has, best}) {
+    if (![...has, ...best].some(Array.isArray)) return best.map((name) => [name]);
+    const [now, then] = [has, best].map(unitsOf), names = [...new Set([...now.keys(), ...then.keys()])].filter((name) => now.get(name) !== then.get(name));
+    const counts = new Map(names.map((name) => [name, then.get(name) ?? 0n]));
+    return names.map((name) => [name, counts]);
 }
 
 function marksOfPath({trade, high_path: above, low_path: below}, isHigh) {
     const own = {ink: BOTH, says: say("mark.price", {trade})};
     const other = isHigh ? {ink: FIRST, says: say("mark.holds_above", {trade})}
         : {ink: SECOND, says: say("mark.holds_below", {trade})};
-    const nodes = (isHigh ? above : below).filter((node) => node !== null);
+    const nodes = (isHigh ? above : below).filter((node) => node !== null).map(nameOn);
     return new Map(nodes.map((node) => [node, node === trade ? own : other]));
 }
 

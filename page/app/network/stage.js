@@ -1,6 +1,7 @@
 // The network as it is guessed, or as an answer has it, drawn so that its firms and lanes can be clicked and reached by keys.
 import {spanOf} from "../../draw/lanes.js";
 import {arrow, escaped, INK, NORMAL, smooth, tag, text, widthOf} from "../../draw/svg.js";
+import {hasUnits} from "../../read/limits.js";
 import {firmLabel, tradeLabel} from "../../words/labels.js";
 import {ownOf} from "../../say/own.js";
 import {say} from "../../words/say.js";
@@ -14,11 +15,16 @@ const OFF = "#64748b", GOOD = "#166534", BAD = "#9a3412", INKS = {content: GOOD,
 /** How many more letters than a number words below a name have where room is kept for them. */
 const BESIDE = 3;
 
-/** How long the numbers of a guess are at most, rounded so that they rarely change it. */
-function digitsOf(stands, lines) {
+/**
+ * How long the numbers of a guess are at most, those in boxes and those of lanes, rounded so that they rarely change it. Where trades have
+ * units a lane has their numbers beside its price, which is reckoned apart.
+ */
+function digitsOf(stands, lines, isByUnits) {
     const utilities = lines.flatMap(({utility, best_utility: most}) => [utility ?? 0n, most ?? 0n]);
     const words = lines.flatMap(({below = []}) => below.map((says) => says.slice(BESIDE)));
-    return Math.max(stands.isSigned ? 6 : 3, ...[...stands.prices.values(), ...utilities, ...words].map((number) => String(number).length));
+    const longest = (numbers, least) => Math.max(least, ...numbers.map((number) => String(number).length)), prices = [...stands.prices.values()];
+    const ofFirms = longest([...prices, ...utilities, ...words], stands.isSigned ? 6 : 3);
+    return {ofFirms, ofPrices: isByUnits ? longest(prices, 2) : ofFirms};
 }
 
 /**
@@ -27,10 +33,10 @@ function digitsOf(stands, lines) {
  * `focus` the names of the firms that are spoken of, and `selection` what is chosen.
  */
 export function stageOf({network, firm, room, stands, lines, marks, focus, selection, hasOwn}) {
-    const digits = digitsOf(stands, [...lines.values()]);
+    const digits = digitsOf(stands, [...lines.values()], hasUnits(network.data));
     const own = new Map(hasOwn ? network.firms.map(({name}) => [name, ownOf(network, name)]).filter(([, said]) => said !== null) : []);
     const plan = planOf(network, firm, digits, room, own), on = new Set(stands.on ?? []);
-    const lanes = plan.lanes.map((lane) => laneAt(lane, on, stands, marks, selection));
+    const flow = hasUnits(network.data) ? flowOf(plan.lanes, stands) : null, lanes = plan.lanes.map((lane) => laneAt(lane, on, stands, marks, selection, flow));
     const named = new Set(plan.lanes.filter((_, k) => lanes[k].isNamed)), labels = labelPlaces(plan, digits, (lane) => named.has(lane));
     const drawn = lanes.map((lane, k) => ({lane, svg: laneSvg(lane, plan.places.arrows[k].points, labels[k], plan.way)}));
     drawn.sort((one, other) => one.lane.rank - other.lane.rank);
@@ -46,15 +52,35 @@ export function laneKey({seller, buyer}) {
     return `lane:${seller} ${buyer}`;
 }
 
-function laneAt(lane, on, stands, marks, selection) {
+/** How wide a lane is drawn over which the most units go, and how wide one over which hardly any do. */
+const WIDEST = 9, LEAST = 2.5;
+
+/** How much wider letters can be than they are reckoned, so that a wide lane stays away from them. */
+const CLEAR = 1.12;
+
+/** Where trades have units: what goes over each lane, and the most that goes over one, as `{units, most}`. */
+function flowOf(lanes, {units = new Map()}) {
+    const over = new Map(lanes.map(({trades}) => [trades[0], trades.reduce((sum, name) => sum + (units.get(name) ?? 0n), 0n)]));
+    const most = [...over.values()].reduce((one, other) => (other > one ? other : one), 1n);
+    return {units: over, most};
+}
+
+/** What is told of the units of a lane, and how wide it is drawn. */
+function countOf({trades, most}, {units, most: top}, mark) {
+    const count = units.get(trades[0]), then = trades.length === 1 && mark?.counts?.has(trades[0]) ? mark.counts.get(trades[0]) : null;
+    return {count, most, then, thick: LEAST + (WIDEST - LEAST) * Number(count) / Number(top)};
+}
+
+function laneAt(lane, on, stands, marks, selection, flow) {
     const taking = lane.trades.filter((name) => on.has(name)), isOn = taking.length > 0;
     const mark = markOf(lane.trades.map((name) => marks.get(name)).filter(Boolean));
     const isChosen = selection?.kind === "lane" && selection.key === laneKey(lane);
     const price = spanOf(isOn ? taking : lane.trades, shownPrices(stands));
     const isSigned = stands.isSigned ?? false, counts = {on: taking.length, all: lane.trades.length};
+    const units = flow === null ? null : countOf(lane, flow, mark);
     const name = lane.trades.length === 1 ? tradeLabel(lane.trades[0]) : say(isSigned ? "stage.signed" : "stage.on", counts);
     const isNamed = isOn || mark !== null || isChosen, rank = (isChosen ? 4 : 0) + (isOn ? 2 : 0) + (mark ? 1 : 0);
-    return {...lane, key: laneKey(lane), name, price, isOn, mark, isChosen, isNamed, rank, isSigned};
+    return {...lane, key: laneKey(lane), name, price, units, isOn, mark, isChosen, isNamed, rank, isSigned};
 }
 
 /** The mark of a lane: of several that which is drawn widest, as what a step is about is. */
@@ -64,16 +90,16 @@ function markOf(found) {
 
 const numbers = new WeakMap();
 
-/** The prices that are numbers, and those beside which units are told; a document that is being typed may have others. */
+/** The prices that are numbers; a document that is being typed may have others. */
 function shownPrices(stands) {
-    const isShown = ([name, price]) => stands.units?.has(name) || /^-?\d+(\/\d+)?$/.test(price);
+    const isShown = ([, price]) => /^-?\d+(\/\d+)?$/.test(price);
     if (!numbers.has(stands)) numbers.set(stands, new Map([...stands.prices].filter(isShown)));
     return numbers.get(stands);
 }
 
 function laneSvg(lane, points, at, {isLine}) {
     const ink = lane.mark?.ink ?? (lane.isOn ? INK : OFF);
-    const width = lane.mark?.width ?? (lane.isOn ? 4 : lane.mark ? 2 : 1.2);
+    const width = lane.units !== null && lane.isOn ? lane.units.thick : lane.mark?.width ?? (lane.isOn ? 4 : lane.mark ? 2 : 1.2);
     const drawn = arrow(points, {ink, width, dashes: !lane.isOn && lane.mark ? lane.mark.dashes ?? "7 4" : null});
     const says = laneSays(lane), chosen = lane.isChosen ? " chosen" : "";
     const attributes = {class: `lane${lane.isOn ? " on" : ""}${chosen}`, "data-key": lane.key, "data-trades": lane.trades.join(" ")};
@@ -89,12 +115,13 @@ const STATES = {true: {true: "stage.is_signed", false: "stage.is_not_signed"},
     false: {true: "stage.is_on", false: "stage.is_off"}};
 
 /** A lane in words, for those who hear it. */
-function laneSays({trades, seller, buyer, name, price, isOn, mark, isSigned}) {
+function laneSays({trades, seller, buyer, name, price, units, isOn, mark, isSigned}) {
     const priced = price === null ? say("stage.no_price") : say("stage.at", {price});
-    const marks = mark === null ? [] : [mark.says];
-    const values = {name, seller, buyer, priced, count: trades.length};
+    const marks = mark === null ? [] : [units !== null && units.then !== null ? say("stage.mark_units", {says: mark.says, count: units.then}) : mark.says];
+    const values = {name, seller, buyer, priced, count: trades.length}, goes = units === null ? null : say("stage.units", {count: units.count, most: units.most});
     if (trades.length === 1) return say("stage.trade",
-        {...values, state: [say(STATES[isSigned][isOn]), ...marks].join(", ")});
+        {...values, state: [goes ?? say(STATES[isSigned][isOn]), ...marks].join(", ")});
+    if (goes !== null) return say("stage.trades", {...values, name: goes, trades: [trades.map(tradeLabel).join(", "), ...marks].join("; ")});
     return say("stage.trades", {...values, trades: [trades.map(tradeLabel).join(", "), ...marks].join("; ")});
 }
 
@@ -103,16 +130,24 @@ function signed({name, mark}) {
     return mark?.sign ? `${mark.sign} ${name}` : name;
 }
 
+/** The price of a lane, with the units that go over it, and those that somebody would rather have. */
+function priceOf({price, units}) {
+    if (units === null) return price;
+    const count = units.then === null ? units.count : `${units.count} \u2192 ${units.then}`, {most} = units;
+    return price === null ? say("picture.units_bare", {count, most}) : say("picture.units_of", {count, most, price});
+}
+
 function twoLines(lane, {x, y}, ink) {
-    const {price, isOn} = lane, name = signed(lane);
-    const width = Math.max(widthOf(name, NORMAL), widthOf(price ?? "", PRICE)) + 10, weight = isOn ? "bold" : null;
+    const {isOn} = lane, price = priceOf(lane), name = signed(lane);
+    const width = Math.max(widthOf(name, NORMAL), widthOf(price ?? "", PRICE)) * (lane.units === null ? 1 : CLEAR) + 10, weight = isOn ? "bold" : null;
     return [tag("rect", {x: x - width / 2, y: y - 17, width, height: 34, rx: 4}),
         text(x, y - 4, name, {ink, weight}), price === null ? null : text(x, y + 12, price, {size: PRICE, ink, weight})];
 }
 
 function lineLabel(lane, {x, y}, ink) {
-    const {price, isOn} = lane, name = signed(lane), says = price === null ? name : say("picture.at", {name, price});
-    const width = widthOf(says, NORMAL) + 6;
+    const {isOn, units} = lane, price = priceOf(lane), name = signed(lane);
+    const says = price === null ? name : units === null ? say("picture.at", {name, price}) : say("picture.lane_units", {name, units: price});
+    const width = widthOf(says, NORMAL) * (units === null ? 1 : CLEAR) + 6;
     return [tag("rect", {x: x - width / 2, y: y - 8, width, height: 16, rx: 3}), text(x, y + 4, says, {ink, weight: isOn ? "bold" : null})];
 }
 
@@ -128,7 +163,7 @@ function inBox(name, {x, y}, line, way, own) {
     const mood = moodOf(line), state = {size: BELOW, ink: INKS[mood] ?? BAD, weight: INKS[mood] ? null : "bold"};
     const lines = line ? belowOf(line, way.kind) : [], title = [firmLabel(name), {size: NAME, weight: "bold"}];
     if (way.kind === "line") return text(x, y + 5, [firmLabel(name), ...lines].join("  "), {...state, size: BELOW, weight: "bold"});
-    const all = [title, ...(own && way.own > 0 ? [[own.short, {size: BELOW, ink: OFF}]] : []), ...lines.map((says) => [says, state])];
+    const all = [title, ...(own && way.own > 0 ? own.lines.map((says) => [says, {size: BELOW, ink: OFF}]) : []), ...lines.map((says) => [says, state])];
     return all.map(([says, style], k) => text(x, y + 4 - (all.length - 1) * HIGH / 2 + k * (HIGH + 0.5), says, style));
 }
 

@@ -1,5 +1,5 @@
 // One price for several trades at once: a slider for those that the table shows.
-import {entriesOf} from "../../read/network.js";
+import {entriesOf, isObject, itemsOf} from "../../read/network.js";
 import {priced} from "../document/edits.js";
 import {networkOf} from "../document/state.js";
 import {say} from "../../words/say.js";
@@ -37,9 +37,16 @@ export function showTogether(value) {
 
 /** The ends of the slider, by the numbers of firms and the prices that there are. */
 function endsOf(network, prices) {
-    const numbers = [...numbersIn(network.data.firms), ...prices].filter((each) => typeof each === "bigint").map(Number);
+    const numbers = [...numbersIn(itemsOf(network.data.firms).map(moneyOf)), ...prices].filter((each) => typeof each === "bigint").map(Number);
     const most = Math.min(FARTHEST, Math.max(1, ...numbers.map(Math.abs)));
     return [String(Math.max(-FARTHEST, Math.min(0, ...prices.filter((each) => typeof each === "bigint").map(Number)))), String(most)];
+}
+
+/** A firm without the counts of its steps, which are no money. */
+function moneyOf(firm) {
+    if (!isObject(firm) || !Array.isArray(firm.sets)) return firm;
+    const last = (steps) => itemsOf(steps).map((step) => itemsOf(step).at(-1));
+    return {...firm, sets: firm.sets.map((set) => ({...set, bought: last(set?.bought), sold: last(set?.sold)}))};
 }
 
 /** All whole numbers in some data. */

@@ -1,10 +1,10 @@
-// The table of trades: each can be turned on or off, or signed, and be given a price, with the bounds of its price beside it. Of very
-// many only the rows in sight are there.
+// The table of trades: each can be turned on or off, signed, or be given a number of units, and be given a price, with the bounds of its
+// price beside it. Of very many only the rows in sight are there.
 import {firmLabel, tradeLabel} from "../../words/labels.js";
 import {say} from "../../words/say.js";
 import {outcomeOf} from "../document/contracts.js";
-import {isOld, networkOf} from "../document/state.js";
-import {setPrice, termsOf, turn} from "../document/terms.js";
+import {isCounted, isOld, networkOf} from "../document/state.js";
+import {countOf, setCount, setPrice, termsOf, turn} from "../document/terms.js";
 import {made, part} from "../shell/page.js";
 import {isRefused, leaving, refuse, typedIn, wholeIn, whyNotWhole} from "../shell/whole.js";
 import {boundsAt, isWithin, scaleOf} from "./bounds.js";
@@ -62,10 +62,11 @@ export function showTrades(value) {
     if (isMoved) bringIn(value);
 }
 
-function showHeads(network, {view, ranges}) {
+function showHeads(network, {document, view, ranges}) {
     const {cells} = part("trades").tHead.rows[0], isSigned = view.mode === "sign", {over} = outcomeOf(network);
     for (const cell of cells) cell.setAttribute("aria-sort", orderOf(cell.dataset.by, view.sort));
     HEADS.forEach(([head], k) => ((cells[k].firstElementChild ?? cells[k]).textContent = say(head)));
+    if (isCounted({document})) cells[3].firstElementChild.textContent = say("head.units");
     if (isSigned) cells[3].firstElementChild.textContent = say("head.signed");
     if (isSigned && over !== 1n) cells[4].firstElementChild.textContent = say("head.price_over", {over});
     cells[5].hidden = rangesOf({view, ranges}).length === 0;
@@ -82,8 +83,8 @@ function orderOf(column, {by, isDown}) {
 }
 
 function rowsOf(network, value) {
-    const {on, prices} = termsOf(value), {filter, firm} = value.view;
-    const all = network.trades.map((trade, place) => ({...trade, place, on: on.has(trade.name), price: prices.get(trade.name)}));
+    const {on, prices, units} = termsOf(value), {filter, firm} = value.view, countAt = (name) => (units === null ? null : units.get(name) ?? 0n);
+    const all = network.trades.map((trade, place) => ({...trade, place, on: on.has(trade.name), units: countAt(trade.name), price: prices.get(trade.name)}));
     return all.filter(({name, seller, buyer}) => (firm === null || seller === firm || buyer === firm)
         && (filter === "" || [name, seller, buyer, tradeLabel(name), firmLabel(seller), firmLabel(buyer)].join(" ").toLowerCase().includes(filter.toLowerCase())));
 }
@@ -97,7 +98,8 @@ function sorted(all, {by, isDown}) {
     if (by === null) return all;
     const order = (one, other) => (typeof one === "bigint" && typeof other === "bigint" ? (one < other ? -1 : one > other ? 1 : 0)
         : String(one ?? "").localeCompare(String(other ?? ""), "en", {numeric: true}));
-    return all.sort((one, other) => (isDown ? -1 : 1) * order(one[by], other[by]) || one.place - other.place);
+    const column = by === "on" && all.some(({units}) => units !== null) ? "units" : by;
+    return all.sort((one, other) => (isDown ? -1 : 1) * order(one[column], other[column]) || one.place - other.place);
 }
 
 function fillFirms(network, view) {
@@ -151,16 +153,45 @@ function rowFor(name) {
     const on = made("input", "", {type: "checkbox", "data-key": `on:${name}`});
     const price = made("input", "", {...FIELD, "data-key": `price:${name}`});
     on.addEventListener("change", () => turn(store, name, on.checked));
+    const units = unitsField(name);
     price.addEventListener("input", () => typed(name, price));
     leaving(price, PRICE(price));
     price.addEventListener("focus", () => chosen(name));
     price.addEventListener("keydown", (event) => stepped(event, name, price));
     const head = made("th", name, {scope: "row"});
     const cells = [null, null, null, "number", "bounds"].map((kind) => made("td", "", {class: kind}));
-    cells[2].append(on);
+    cells[2].append(on, units, made("span", "", {class: "quiet"}));
     cells[3].append(price);
     row.append(head, ...cells);
     return row;
+}
+
+/** How the units of a trade are typed: none to all that it has. */
+const UNITS = (name, field) => {
+    const most = () => networkOf(store.value.document).capacity(name);
+    const read = (text) => {
+        const whole = wholeIn(text);
+        return whole !== null && BigInt(whole) >= 0n && BigInt(whole) <= most() ? whole : null;
+    };
+    return {read, why: (text) => wholeIn(text) === null ? whyNotWhole(text) : say("number.between", {least: 0, most: most()}), shown: () => field.dataset.price ?? ""};
+};
+
+/** The field of how many units of a trade go. */
+function unitsField(name) {
+    const field = made("input", "", {...FIELD, "data-key": `units:${name}`}), reading = UNITS(name, field);
+    const take = (whole, mark) => setCount(store, name, BigInt(whole), mark);
+    field.addEventListener("input", () => typedIn(field, {...reading, take: (whole) => take(whole, `count of ${name}`)}));
+    leaving(field, reading);
+    field.addEventListener("focus", () => chosen(name));
+    field.addEventListener("keydown", (event) => {
+        const step = {ArrowUp: 1n, ArrowDown: -1n}[event.key];
+        if (step === undefined || wholeIn(field.value) === null) return;
+        event.preventDefault();
+        take(countOf(store.value, name) + step);
+        field.value = String(countOf(store.value, name));
+        refuse(field, null);
+    });
+    return field;
 }
 
 /** Marks the trade of a field in the network, without moving the focus. */
@@ -187,7 +218,7 @@ function isChosen({name, seller, buyer}, selection) {
 }
 
 function update(element, row, place, value, {scale, range, isOldRange}) {
-    const [head, from, to, on, price, bounds] = element.cells, box = on.firstElementChild, field = price.firstElementChild;
+    const [head, from, to, on, price, bounds] = element.cells, box = on.firstElementChild, units = on.children[1], field = price.firstElementChild;
     element.setAttribute("aria-rowindex", place + 2);
     element.className = `${row.on ? "on" : ""}${isChosen(row, value.selection) ? " chosen" : ""}`.trim();
     for (const [cell, says, name] of [[head, tradeLabel(row.name), row.name], [from, firmLabel(row.seller), row.seller], [to, firmLabel(row.buyer), row.buyer]]) {
@@ -195,6 +226,7 @@ function update(element, row, place, value, {scale, range, isOldRange}) {
         cell.title = says === name ? "" : name;
     }
     box.checked = row.on;
+    showUnits(row, on, box, units);
     box.setAttribute("aria-label", say(value.view.mode === "sign" ? "stage.name_signed" : "stage.name_on",
         {name: row.name}));
     field.setAttribute("aria-label", say("stage.price_of", {name: row.name}));
@@ -205,7 +237,20 @@ function update(element, row, place, value, {scale, range, isOldRange}) {
     field.classList.toggle("beyond", range !== undefined && !isOldRange && typeof row.price === "bigint" && !isWithin(range, row.price));
 }
 
-/** Shows a price in its field, but not in the place of what says the same, or was refused and nothing changed since. */
+/** Shows how many units of a trade go, and of how many, in the place of the box. */
+function showUnits({name, units: count}, cell, box, field) {
+    const isThere = count !== null, of = cell.lastElementChild;
+    box.hidden = isThere;
+    for (const part of [field, of]) part.hidden = !isThere;
+    cell.className = isThere ? "number" : "";
+    if (!isThere) return;
+    const most = networkOf(store.value.document).capacity(name);
+    field.setAttribute("aria-label", say("stage.units_of", {name, most}));
+    showPrice(field, String(count));
+    of.textContent = say("stage.of", {most});
+}
+
+/** Shows a price or units in their field, but not in the place of what says the same, or was refused and nothing changed since. */
 function showPrice(field, shown) {
     const isChanged = field.dataset.price !== shown;
     field.dataset.price = shown;

@@ -13,7 +13,7 @@ import {say} from "../../words/say.js";
 import {claimOf} from "../document/claims.js";
 import {hasOutcome} from "../document/contracts.js";
 import {hasArrangement} from "../document/edits.js";
-import {isCounted, isOld, networkOf} from "../document/state.js";
+import {isOld, networkOf, shutBy} from "../document/state.js";
 import {markOf} from "../told/answer.js";
 import {Ended, inText, NoAnswerCame} from "./ask.js";
 
@@ -32,10 +32,10 @@ export class Guesses {
     /** What is to be asked next: words and how their answer is taken in; null where all is answered. */
     next() {
         const {value} = this.store, {view} = value, isWanted = (said) => said === null || isOld(value, said);
-        if (!value.document.isWhole || isCounted(value)) return null;
+        if (!value.document.isWhole) return null;
         if (view.mode === "sign" && isWanted(value.judged)) return ["judge", "judged"];
         if (isWanted(value.guess)) return ["firms", "guessed"];
-        if (view.panel === "claim" && isWanted(value.decided)) return ["replay", "decided"];
+        if (view.panel === "claim" && shutBy(value) === null && isWanted(value.decided)) return ["replay", "decided"];
         if (view.hasReason && view.mode === "guess" && isWanted(value.reason)) return ["support", "reasoned"];
         return view.hasRanges && isWanted(value.ranges) ? ["range", "ranged"] : null;
     }

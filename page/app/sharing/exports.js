@@ -1,6 +1,7 @@
 // What goes out of the page as a file: the document, a picture, an answer, and tables.
 import {hasUnits} from "../../read/limits.js";
-import {entriesOf, isObject, itemsOf} from "../../read/network.js";
+import {entriesOf} from "../../read/network.js";
+import {namesOn, unitsOf} from "../../read/standing.js";
 import {firmLabel, tradeLabel} from "../../words/labels.js";
 import {say} from "../../words/say.js";
 import {networkOf} from "../document/state.js";
@@ -49,10 +50,11 @@ export function firmsTable({guess}) {
     return [HEADS.map((head) => say(head)), ...[...linesOf(guess).values()].map((line) => [firmLabel(line.firm), ...cellsOf(line)])];
 }
 
-/** The ranges of prices; 1 stands beside a trade that takes place. */
+/** The ranges of prices; beside a trade that takes place stands 1, or how many units of it go. */
 export function rangesTable({ranges: {said}}) {
-    const lines = said.ranges.map(({trade, low, high}) => [tradeLabel(trade), said.on.includes(trade) ? 1 : 0, low ?? "", high ?? ""]);
-    return [["head.trade", "head.on", "head.low", "head.high"].map((head) => say(head)), ...lines];
+    const taking = new Set(namesOn(said.on)), units = unitsOf(said.on), countOf = (trade) => units.get(trade) ?? (taking.has(trade) ? 1 : 0);
+    const lines = said.ranges.map(({trade, low, high}) => [tradeLabel(trade), countOf(trade), low ?? "", high ?? ""]);
+    return [["head.trade", units.size > 0 ? "head.units" : "head.on", "head.low", "head.high"].map((head) => say(head)), ...lines];
 }
 
 /** Whether an answer to a document whose trades have units has a table. */
@@ -64,8 +66,7 @@ export function isCountedAnswer(asked, said) {
 export function countsTable(asked, said) {
     if (said.answer === "firms") return [HEADS.map((head) => say(head)), ...said.firms.map((line) => [firmLabel(line.firm), ...cellsOf(line)])];
     const network = networkOf(asked), counts = entriesOf(said.on ?? network.arrangement.on), ofPrice = pricesOf(said);
-    const units = new Map(itemsOf(network.data.trades).filter(isObject).map(({name, units: all}) => [name, all ?? 1n]));
-    const lines = network.trades.map(({name, seller, buyer}) => [tradeLabel(name), firmLabel(seller), firmLabel(buyer), counts.get(name) ?? 0n, units.get(name),
+    const lines = network.trades.map(({name, seller, buyer}) => [tradeLabel(name), firmLabel(seller), firmLabel(buyer), counts.get(name) ?? 0n, network.capacity(name),
         ...ofPrice.get(name)]);
     const heads = said.answer === "ranges" ? ["head.low", "head.high"] : ["head.price"];
     return [["head.trade", "head.from", "head.to", "head.units", "head.all_units", ...heads].map((head) => say(head)), ...lines];

@@ -4,14 +4,14 @@ import {say} from "../../words/say.js";
 import {outcomeOf} from "../document/contracts.js";
 import {hasArrangement} from "../document/edits.js";
 import {isOneLine} from "../document/lines.js";
-import {faulty, isCounted, isOld, networkOf} from "../document/state.js";
+import {faulty, isCounted, isOld, networkOf, shutBy} from "../document/state.js";
 import {isTable} from "../network/plan.js";
 import {showSteps} from "./help.js";
 import {part, write} from "./page.js";
 import {showWays} from "./ways.js";
 
 /** The views of the panel, each with the part of the page that it has: a guess and what is signed share the table of trades. */
-const PANELS = {guess: "panel-guess", sign: "panel-guess", whatif: "panel-whatif", claim: "panel-claim", build: "panel-build",
+const SHUT = "panel-shut", PANELS = {guess: "panel-guess", sign: "panel-guess", whatif: "panel-whatif", claim: "panel-claim", build: "panel-build",
     document: "panel-document", answer: "panel-answer", results: "panel-results"};
 
 /** From how many lanes the network takes the whole width by itself. */
@@ -25,7 +25,7 @@ export function showShell(value) {
     page.dataset.units = `${isCounted(value)}`;
     page.dataset.guess = saidState(value, value.guess);
     page.dataset.judged = view.mode === "sign" ? saidState(value, value.judged) : "none";
-    page.dataset.decided = view.panel === "claim" ? saidState(value, value.decided) : "none";
+    page.dataset.decided = view.panel === "claim" && shutBy(value) === null ? saidState(value, value.decided) : "none";
     page.dataset.reason = view.hasReason && view.mode === "guess" ? saidState(value, value.reason) : "none";
     page.dataset.ranges = rangesState(value);
     page.dataset.path = pathState(value);
@@ -36,7 +36,7 @@ export function showShell(value) {
     able("redo", future.length > 0);
     showWays(value);
     showSteps(value);
-    showPanel(view.panel);
+    showPanel(view.panel, shutBy(value));
     showNote(value);
     showMode(value);
     showText(value);
@@ -56,7 +56,7 @@ function showNote({document}) {
 
 /** How far the program is with what it is asked without being asked for. */
 function saidState(value, said) {
-    if (!value.document.isWhole || isCounted(value)) return "none";
+    if (!value.document.isWhole) return "none";
     if (said === null || isOld(value, said)) return "asking";
     if (said.trouble) return "trouble";
     return said.isNone ? "none" : said.said.answer === "fault" ? "fault" : "answered";
@@ -83,16 +83,19 @@ function isWide({document: shown, view}) {
     return view.isWide ?? (new Set(network.trades.map(({seller, buyer}) => `${seller} ${buyer}`)).size > MANY && !isTable(network));
 }
 
-function showPanel(panel) {
-    if (panel === shownPanel) return;
+/** Shows the view of the panel; where that is shut what is said of it in its place. */
+function showPanel(panel, shut) {
+    const place = shut === null ? PANELS[panel] : SHUT, key = `${panel} ${place}`;
+    if (shut !== null) write("shut-says", say(shut));
+    if (key === shownPanel) return;
     for (const name of Object.keys(PANELS)) {
         const tab = part(`tab-${name}`), isChosen = name === panel;
         tab.setAttribute("aria-selected", `${isChosen}`);
         tab.tabIndex = isChosen ? 0 : -1;
     }
-    for (const id of new Set(Object.values(PANELS))) part(id).hidden = id !== PANELS[panel];
-    part(PANELS[panel]).setAttribute("aria-labelledby", `tab-${panel}`);
-    shownPanel = panel;
+    for (const id of new Set([...Object.values(PANELS), SHUT])) part(id).hidden = id !== place;
+    part(place).setAttribute("aria-labelledby", `tab-${panel}`);
+    shownPanel = key;
 }
 
 /** Shows what is only of a guess, or only of what is signed. */
@@ -122,7 +125,7 @@ function showText(value) {
 function showOver(value) {
     const {answer, view} = value, isOver = view.isOver && answer?.said?.answer === "solved" && !isOld(value, answer);
     part("over").hidden = !isOver;
-    for (const id of ["over-take", "over-claim"]) part(id).hidden = isCounted(value);
+    part("over-claim").hidden = isCounted(value);
     part("verdict-row").hidden = isOver;
     part("said").hidden = isOver;
     if (isOver) write("over-says", say("verdict.solved", {surplus: answer.said.surplus}));

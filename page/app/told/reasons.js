@@ -3,7 +3,7 @@ import {say} from "../../words/say.js";
 import {claimedAs, claimOf} from "../document/claims.js";
 import {goTo, refreshEditor} from "../document/editor.js";
 import {isOld, networkOf} from "../document/state.js";
-import {arrange, countOver, guessSigned, signAt, signGuess, termsOf} from "../document/terms.js";
+import {arrange, countOver, guessSigned, reprice, signAt, signGuess, termsOf} from "../document/terms.js";
 import {on, part} from "../shell/page.js";
 import {reasonOf, stepOf} from "./story.js";
 
@@ -29,8 +29,10 @@ function bindStory(store) {
     });
     on("reason-close", () => store.act("looked", {hasReason: false}));
     on("reason-take", () => {
-        const {said, none} = reasonOf(store.value), found = none?.arrangement ?? {on: [...termsOf(store.value).on], prices: said.prices};
-        arrange(store, found.on, found.prices);
+        const {said, none} = reasonOf(store.value), found = none?.arrangement;
+        if (found) arrange(store, found.on, found.prices);
+        else if (store.value.view.mode === "guess") reprice(store, said.prices);
+        else arrange(store, [...termsOf(store.value).on], said.prices);
         store.act("went", "guess");
     });
 }

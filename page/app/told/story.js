@@ -1,7 +1,7 @@
 // Why an answer is so, in the page: step by step above the network, and as a list with its picture beside it.
 import {say} from "../../words/say.js";
 import {canBeClaimed} from "../document/claims.js";
-import {isOld} from "../document/state.js";
+import {isCounted, isOld} from "../document/state.js";
 import {drawing, keepingFocus, made, part, write} from "../shell/page.js";
 
 /** What is told: the answer of `judge` to what is signed, or where it is looked at why a guess has no prices; null where there is none. */
@@ -39,7 +39,7 @@ function showButtons(value, told) {
     part("reason-close").hidden = value.view.mode === "sign";
     part("reason-take").hidden = !canBeTaken(told.said) && !told.none?.arrangement;
     part("none-claim").hidden = !told.none?.claim;
-    part("reason-claim").hidden = !canBeClaimed(told.said);
+    part("reason-claim").hidden = isCounted(value) || !canBeClaimed(told.said);
     for (const id of ["reason-take", "reason-claim", "none-claim"]) part(id).setAttribute("aria-disabled", `${old}`);
 }
 

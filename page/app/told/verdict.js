@@ -5,7 +5,7 @@ import {plainLine} from "../../say/plain.js";
 import {Deals} from "../../say/words.js";
 import {say} from "../../words/say.js";
 import {hasArrangement} from "../document/edits.js";
-import {isCounted, isOld, networkOf} from "../document/state.js";
+import {isOld, networkOf} from "../document/state.js";
 import {linesOf, objectors} from "../network/firms.js";
 import {writeMeant} from "../shell/meanings.js";
 import {made, part, write} from "../shell/page.js";
@@ -18,10 +18,10 @@ import {stepOf} from "./story.js";
 export function showVerdict(value) {
     if (value.view.mode === "whatif") return showSupposed(value);
     const {document, view} = value, isSigned = view.mode === "sign", said = isSigned ? value.judged : value.guess;
-    const verdict = verdictOf(value, said), list = isCounted(value) ? [] : objectors(value);
+    const verdict = verdictOf(value, said), list = objectors(value);
     showObjectors(value, isSigned ? [] : list);
     writeMeant(part("verdict"), verdict.says);
-    part("verdict").className = isOld(value, said) && !isCounted(value) ? `${verdict.mood} old` : verdict.mood;
+    part("verdict").className = isOld(value, said) ? `${verdict.mood} old` : verdict.mood;
     part("objects").hidden = isSigned && list.length < 2;
     part("objects").disabled = list.length === 0 || isOld(value, said);
     if (!document.isWhole) return;
@@ -89,7 +89,6 @@ function signedLine({judged, document}, name) {
 
 function verdictOf(value, said) {
     const {document} = value;
-    if (isCounted(value)) return {mood: "unknown", says: say("verdict.counted")};
     if (!document.isWhole) return {mood: "unknown", says: say("verdict.too_long_to_guess")};
     if (said === null) return {mood: "unknown", says: say("verdict.asked")};
     if (said.trouble) return {mood: "fault", says: said.trouble};

@@ -36,6 +36,7 @@ export const FORM = {
         middleman: "Kauft eines und verkauft es weiter; behält es nur, wo das gesagt ist.", dealer: "Verkauft Gekauftes weiter, jeden Kauf als einen Verkauf, mit dem er ein Paar ist.",
         laminar: "Jedes Geschäft ist seinen Betrag wert, und jede Menge gibt eine Zahl dazu, je nachdem, wie viele ihrer Geschäfte zustande kommen.",
         table: "Was wie viel wert ist, steht Bündel für Bündel da.",
+        units: "Jede Einheit eines Geschäfts ist seinen Betrag wert, und jede Menge gibt für jede weitere Einheit eine Zahl dazu.",
     },
     form: {
         sells_from: "Verkauft ab", costs_more: "Jedes weitere kostet mehr als das erste, um", sells_to: "Je Geschäft, ab", pays_up_to: "Zahlt bis",
@@ -78,5 +79,11 @@ export const FORM = {
         trade_of: "Geschäft {name}", from: "von", to: "an", trade_from: "Geschäft {name} von",
         trade_to: "Geschäft {name} an", remove_trade: "Das Geschäft {name} entfernen",
         new_from: "Ein neues Geschäft von", new_to: "Ein neues Geschäft an", add_trade: "Geschäft hinzufügen",
+        units: "Einheiten", units_of: "Einheiten von {name}", give_units: "Geschäften viele Einheiten geben", steps: "Stufen", add_step: "Stufe hinzufügen", how_many: "wie viele",
+        of_steps: "Jede Stufe sagt, für wie viele weitere Einheiten eine Zahl gilt; nach der letzten gibt es keine mehr. Beim Verkauf und beim Machen "
+            + "fallen die Zahlen nie, beim Kauf steigen sie nie.",
+        worth_beside: "Wert daneben, je Geschäft", bought: "Gekauft", sold: "Verkauft", each_adds: "jede gibt dazu", in_list: "Menge {set}, {list}: {says}",
+        of_unit_sets: "Der Saldo einer Menge ist, wie viele Einheiten ihrer Geschäfte gekauft werden, weniger die verkauften. Jede weitere gibt dazu, was ihre "
+            + "Stufe sagt, was nie steigt, und nach der letzten Stufe ist nichts möglich.",
     },
 };

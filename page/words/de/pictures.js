@@ -2,7 +2,8 @@
 export const PICTURES = {
     picture: {
         network: "Netz", ranges: "Preisspannen", price: "Preis", ends: "{seller} an {buyer}", from: "von {firm}",
-        to: "an {firm}", at: "{name} für {price}", units: "{count} für {price}", several: "mehrere Preise",
+        to: "an {firm}", at: "{name} für {price}", units: "{count} für {price}", units_of: "{count}/{most} für {price}", units_bare: "{count}/{most}",
+        lane_units: "{name}: {units}", several: "mehrere Preise",
         trades: {one: "{count} Geschäft", other: "{count} Geschäfte"},
         too_many: "zu viele Pfeile für ein Bild: nenne eine Firma, um ihre Geschäfte zu sehen",
         takes_place: "kommt zustande", takes_no_place: "kommt nicht zustande", is_signed: "ist unterschrieben",

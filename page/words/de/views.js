@@ -1,8 +1,6 @@
 // What is said above the network and in it, of bounds, what-ifs and claims.
 export const VIEWS = {
     verdict: {
-        counted: "Die Geschäfte haben hier Einheiten: frage solve, check, firms, support oder range unter „Antworten“. Vorschlag, "
-            + "Verträge, „Was, wenn?“, Behauptung und Formular kennen nur Geschäfte von einer Einheit.",
         asked: "Das Programm wird gefragt.",
         too_long: "Das Dokument ist zu lang, um hier betrachtet zu werden. Die Befehle unter „Antworten“ gehen "
             + "trotzdem.",
@@ -32,6 +30,11 @@ export const VIEWS = {
         signed_impossible: "{firm} {does}, was für diese Firma unmöglich ist.",
         signed_utility: "{firm} {does}: Der Nutzen ist {utility}.",
     },
+    counted: {
+        sign: "Die Geschäfte haben hier Einheiten, und ob Verträge in einem solchen Markt halten, beantwortet das Programm noch nicht.",
+        whatif: "Die Geschäfte haben hier Einheiten, und was wäre, wenn jemand einen solchen Markt verließe, beantwortet das Programm noch nicht.",
+        claim: "Die Geschäfte haben hier Einheiten, und ob eine Behauptung über einen solchen Markt stimmt, beantwortet das Programm noch nicht.",
+    },
     auction: {
         begun: "Jeder Preis ist, was der Verkäufer mindestens will, und noch niemand hält etwas.",
         no_trades: "Es gibt nichts zu verkaufen.",
@@ -60,11 +63,15 @@ export const VIEWS = {
         sells: "verkauft ab {price}", pays: "zahlt bis {price}", makes: "macht es für {price}", most: "höchstens {count}",
         worth: "{bundle}: {worth}", passes: "gibt eines weiter", costs: "mit Kosten von {price}", gains: "und bekommt {price} mehr", keeps: "behält es für {price}",
         matches: "gibt weiter für {price}", passed: "als {sale} für {price}", together: "{number} für {count} zusammen", together_of: "{number} für {count} von {trades}",
+        sells_units: "verkauft {count} ab {price}", sells_more: "{count} ab {price}", buys_units: "kauft {count} bis {price}", buys_more: "{count} bis {price}",
+        makes_units: "macht {count} für {price}", makes_more: "{count} für {price}", set: "von {trades}: {steps}", even: "so viele verkauft wie gekauft",
+        step_bought: "{count} gekauft mit {adds}", step_sold: "{count} verkauft mit {adds}",
     },
     stage: {
         one_price: {one: "Ein Preis für das gezeigte Geschäft: {price}", other: "Ein Preis für die {count} gezeigten Geschäfte: {price}"},
         firm_own: "{says}. Eigene Zahlen: {own}",
-        less: "Preis von {name} senken", more: "Preis von {name} erhöhen",
+        less: "Preis von {name} senken", more: "Preis von {name} erhöhen", fewer: "Weniger Einheiten von {name}", more_units: "Mehr Einheiten von {name}",
+        units: "{count} von {most} Einheiten", mark_units: "{says}: {count}", units_of: "Einheiten von {name}, von {most}", of: "/{most}",
         firm: "Firma {name}", firm_says: "Firma {name}: {says}",
         firm_content: "Firma {name}, zufrieden mit einem Nutzen von {utility}",
         firm_impossible: "Firma {name} widerspricht: Was sie hat, ist für sie unmöglich",
@@ -80,6 +87,7 @@ export const VIEWS = {
     },
     legend: {
         guess: "Dick: kommt zustande. Dünn: nicht. \u2713 zufrieden. \u2717 widerspricht.",
+        units: "Je breiter, desto mehr Einheiten gehen, von so vielen, zum Preis für eine. \u2713 zufrieden. \u2717 widerspricht.",
         signed: "Dick: ist unterschrieben. Dünn: nicht.",
         whatif: "Dick: bleibt. + und grün: kommt dazu oder mehr als vorher. \u2212 und rot: fällt weg oder weniger als "
             + "vorher. Punktiert: nicht nutzbar. Unter einer Firma: ihr Nutzen vorher und nachher.",

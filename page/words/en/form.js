@@ -35,6 +35,7 @@ export const FORM = {
         middleman: "Buys one and sells it on; keeps it only where that is said.", dealer: "Sells on what is bought, each purchase as a sale that it is paired with.",
         laminar: "Each trade is worth its amount, and each set adds a number by how many of its trades take place.",
         table: "What is worth what is said bundle by bundle.",
+        units: "Each unit of a trade is worth its amount, and each set adds a number for each further unit.",
     },
     form: {
         sells_from: "Sells from", costs_more: "Each further one costs more than the first by", sells_to: "By trade, from", pays_up_to: "Pays up to",
@@ -69,5 +70,11 @@ export const FORM = {
         trade_of: "Trade of {name}", from: "from", to: "to", trade_from: "Trade {name} from",
         trade_to: "Trade {name} to", remove_trade: "Remove the trade {name}", new_from: "A new trade from",
         new_to: "A new trade to", add_trade: "Add a trade",
+        units: "units", units_of: "Units of {name}", give_units: "Let trades have many units", steps: "Steps", add_step: "Add a step", how_many: "how many",
+        of_steps: "Each step says for how many further units a number stands; beyond the last one there are none. The numbers of a seller or a maker "
+            + "never fall, and those of a buyer never rise.",
+        worth_beside: "Worth beside it, by trade", bought: "Bought", sold: "Sold", each_adds: "each adds", in_list: "Set {set}, {list}: {says}",
+        of_unit_sets: "A set counts the units that are bought of its trades less those that are sold. Each further one adds what its step says, which never "
+            + "rises, and beyond the last step nothing is possible.",
     },
 };

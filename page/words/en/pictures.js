@@ -2,7 +2,8 @@
 export const PICTURES = {
     picture: {
         network: "network", ranges: "price ranges", price: "price", ends: "{seller} to {buyer}", from: "from {firm}",
-        to: "to {firm}", at: "{name} at {price}", units: "{count} at {price}", several: "several prices",
+        to: "to {firm}", at: "{name} at {price}", units: "{count} at {price}", units_of: "{count}/{most} at {price}", units_bare: "{count}/{most}",
+        lane_units: "{name}: {units}", several: "several prices",
         trades: {one: "{count} trade", other: "{count} trades"},
         too_many: "too many arrows to draw: name one firm to see its trades",
         takes_place: "takes place", takes_no_place: "doesn't take place", is_signed: "is signed",

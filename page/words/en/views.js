@@ -1,8 +1,6 @@
 // What is said above the network and in it, of bounds, what-ifs and claims.
 export const VIEWS = {
     verdict: {
-        counted: "The trades have units here: ask solve, check, firms, support or range, under Answers. Guesses, contracts, "
-            + "What if, claims and the form know trades of one unit alone.",
         asked: "The program is asked.",
         too_long: "The document is too long to be looked at here. The commands can be asked.",
         too_long_to_guess: "The document is too long to guess at. The commands can be asked.",
@@ -26,6 +24,11 @@ export const VIEWS = {
         signed_does: "{firm} {does}.",
         signed_impossible: "{firm} {does}, which is impossible for [it|them].",
         signed_utility: "{firm} {does}: [its|their] utility is {utility}.",
+    },
+    counted: {
+        sign: "Trades have units here, and whether contracts in such a market last is nothing that the program answers yet.",
+        whatif: "Trades have units here, and what if somebody left such a market is nothing that the program answers yet.",
+        claim: "Trades have units here, and whether a claim of such a market is so is nothing that the program answers yet.",
     },
     auction: {
         begun: "Each price is what its seller wants at least, and nobody holds anything yet.",
@@ -53,11 +56,15 @@ export const VIEWS = {
         sells: "sells from {price}", pays: "pays up to {price}", makes: "makes it for {price}", most: "at most {count}",
         worth: "{bundle}: {worth}", passes: "passes one on", costs: "at a cost of {price}", gains: "and gets {price} more", keeps: "keeps it for {price}",
         matches: "passes on for {price}", passed: "as {sale} for {price}", together: "{number} for {count} together", together_of: "{number} for {count} of {trades}",
+        sells_units: "sells {count} from {price}", sells_more: "{count} from {price}", buys_units: "buys {count} up to {price}", buys_more: "{count} up to {price}",
+        makes_units: "makes {count} for {price}", makes_more: "{count} for {price}", set: "of {trades}: {steps}", even: "as many sold as bought",
+        step_bought: "{count} bought at {adds}", step_sold: "{count} sold at {adds}",
     },
     stage: {
         one_price: {one: "A price for the {count} trade shown: {price}", other: "One price for the {count} trades shown: {price}"},
         firm_own: "{says}. Own numbers: {own}",
-        less: "Lower the price of {name}", more: "Raise the price of {name}",
+        less: "Lower the price of {name}", more: "Raise the price of {name}", fewer: "Fewer units of {name}", more_units: "More units of {name}",
+        units: "{count} of {most} units", mark_units: "{says}: {count}", units_of: "Units of {name}, of {most}", of: "/{most}",
         firm: "Firm {name}", firm_says: "Firm {name}: {says}",
         firm_content: "Firm {name}, content with a utility of {utility}",
         firm_impossible: "Firm {name} objects: what [it|they] [has|have] is impossible for [it|them]",
@@ -71,6 +78,7 @@ export const VIEWS = {
     },
     legend: {
         guess: "Thick: takes place. Thin: doesn't. \u2713 content. \u2717 objects.",
+        units: "The wider, the more units go, of so many, at the price of one. \u2713 content. \u2717 objects.",
         signed: "Thick: is signed. Thin: isn't.",
         whatif: "Thick: stays. + and green: comes, or more than before. \u2212 and red: goes, or fewer than before. "
             + "Dotted: can't be used. Below a firm: [its|their] utility before and after.",
