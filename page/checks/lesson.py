@@ -32,7 +32,7 @@ def entry(key: str) -> str:
 
 def tries_to_build(page: Bench, program: str | None):
     page.click("#new")
-    yield "a new document has no firms, and a form", page.value("document.querySelectorAll('#build-fields button').length") == 3
+    yield "a new document has no firms, and a form", page.value("document.querySelectorAll('#build-fields button').length") == 4
     for name, kind in (("S", "seller-one"), ("B", "buyer-one")):
         page.click(entry(f"{kind} add"))
         page.drag(entry("firm name"), 0)

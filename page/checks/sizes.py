@@ -94,7 +94,7 @@ def tries_at(page: bench.Bench, where: str, is_lesson: bool, screen: tuple[int, 
     if found["width"] <= 900:
         yield f"{where}: the picture begins at {found['top']:.0f} of {found['height']}", found["top"] <= found["height"] / 3 + 1
         yield f"{where}: nothing is wider than the screen", found["over"][0] <= 0
-        page.browser.run("document.querySelector('#trades input[type=text]').scrollIntoView({block: 'center'})")
+        page.browser.run("document.querySelector('#trades [data-key^=\"price:\"]').scrollIntoView({block: 'center'})")
         top = page.value("document.getElementById('verdict').getBoundingClientRect().top")
         yield f"{where}: the verdict stays in sight", -1 <= top <= 60
         page.browser.run("scrollTo(0, 0)")
