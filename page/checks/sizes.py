@@ -47,13 +47,17 @@ def firm(name: str, trades: list[str], amount: int, least: int) -> dict:
     return {"name": name, "kind": "laminar", "amounts": [[trade, amount] for trade in trades], "sets": [{"trades": trades, "from": least, "values": [0, 0]}]}
 
 
-DOCUMENTS = {name: None for name in LESSON} | {"10 firms": (5, 5, 2), "20 firms": (10, 10, 2), "60 lanes": (12, 15, 5)}
+DOCUMENTS = {name: None for name in LESSON} | {"10 firms": (5, 5, 2), "20 firms": (10, 10, 2), "60 lanes": (12, 15, 5), "mills-low-price": ()}
 
 
 def shown(page: bench.Bench, name: str) -> None:
     """Opens a document of those by its name."""
     numbers = DOCUMENTS[name]
-    page.open(f"{name}.json", look.example(f"lesson/{name}.json") if numbers is None else market(*numbers))
+    if numbers == ():
+        data = look.example(f"{name}.json")
+    else:
+        data = look.example(f"lesson/{name}.json") if numbers is None else market(*numbers)
+    page.open(f"{name}.json", data)
 
 
 def sized(page: bench.Bench, width: int, height: int) -> None:
