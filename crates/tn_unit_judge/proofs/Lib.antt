@@ -1,0 +1,6 @@
+-- The files of lemmas of this crate.
+pub mod JoinLemmas
+pub mod MadeLemmas
+pub mod SplitLemmas
+pub mod WideLemmas
+pub mod DropLemmas
