@@ -13,7 +13,7 @@ returns-clause-least c =
     let settled = c.settle_near.ensures in
     let kept = settled.kept in
     let count : old.len ≡ length new =
-    omega (arith, old.ok.0, c.in_ok-levels.ensures.kept.one_each, kept.one_each) in
+    omega (arith, old.ok.0, c.in_ok-levels.ensures.one_each, kept.one_each) in
     let back : take old.len (new ++ drop (length new) old.items) ≡ new =
     take_at new (drop (length new) old.items) old.len (sym count) in
     subst (IsBest c.args.links.items) (sym back) (subst (λ (some : List Link). IsBest some new) c.in_ok-links.ensures.1
