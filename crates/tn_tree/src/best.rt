@@ -6,7 +6,7 @@ ghost use Rattle.tn_base.specs.Arcs.{IsAtMost};
 ghost use Rattle.tn_links.specs.Widths.{most_each};
 ghost use Rattle.tn_counts.specs.Counts.{IsBestCount, count_utility};
 ghost use Rattle.tn_counts.specs.Laminar.{firm_of};
-ghost use Rattle.tn_counts.specs.Markets.{IsWideMarket};
+ghost use Rattle.tn_counts.specs.Markets.{IsUnitMarket, IsWideMarket};
 ghost use Rattle.tn_counts.specs.Widths.{most_wide_trades};
 ghost use Rattle.tn_tree.specs.Lists.{own_counts, pin_of, price_in};
 
@@ -46,7 +46,26 @@ fn pin_all(alloc: Global, prices: &[i64]) -> Result<Vec<Pin>, OutOfMemory>
 /// Finds for each firm the best counts at these prices, each firm for itself: how many units of a trade its seller would
 /// sell and how many its buyer would buy may differ. Prices are at most 2 * 10^11 in size. It fails only where memory runs
 /// out.
+#[tactic(auto, using(tn_counts::proofs::WideLemmas::wide_market))]
 pub fn best_counts(
+    alloc: Global,
+    market: &UnitMarket,
+    prices: &[i64],
+) -> Result<BestCounts, OutOfMemory>
+    requires market { IsUnitMarket market.now }
+    requires as_many { length prices.now ≡ length market.now.trades.items }
+    requires small { (t : ℕ) → t < length prices.now → IsAtMost (price_in prices.now t) most_each }
+    ensures sold { IfOk result (λ best. length best.sold.items ≡ length market.now.trades.items) }
+    ensures bought { IfOk result (λ best. length best.bought.items ≡ length market.now.trades.items) }
+    ensures best { IfOk result (λ best. (f : ℕ) → f < market.now.firms → (value : ℤ)
+        × IsBestCount market.now.trades.items (count_utility market.now.trades.items (pos 1) (price_in prices.now) f
+        (firm_of market.now f)) (own_counts market.now.trades.items best.sold.items best.bought.items f) value) }
+{
+    best_wide(alloc, market, prices)
+}
+
+/// The same of a wide market.
+pub(crate) fn best_wide(
     alloc: Global,
     market: &UnitMarket,
     prices: &[i64],

@@ -15,7 +15,7 @@ ghost use Rattle.tn_tree.specs.Held.{AreKept, AreSmallValues, AreValues, IsHeld,
 ghost use Rattle.tn_tree.specs.Lists.{count_in, own_counts, price_in, rate_of};
 ghost use Rattle.tn_tree.specs.Nets.{HaveTree, most_count_worth, most_paid};
 
-use crate::best::{BestCounts, best_counts};
+use crate::best::{BestCounts, best_wide};
 use crate::build::links_of;
 use crate::worths::{amount_sums, sum, worths_by};
 use std::alloc::Global;
@@ -287,7 +287,7 @@ pub fn hold_wide(
     let links = links_of(alloc, market, &[])?;
     let rates = rates_of(alloc, prices)?;
     let own = values_of(alloc, market, &links, &rates, counts, counts)?;
-    let best = best_counts(alloc, market, prices)?;
+    let best = best_wide(alloc, market, prices)?;
     let most = values_of(alloc, market, &links, &rates, &best.sold, &best.bought)?;
     let firms = firm_counts(alloc, &own.worths, &own.utilities, &most.utilities)?;
     let best = keep_own(alloc, market, &firms, counts, &best)?;

@@ -1,10 +1,10 @@
--- What shows the clauses of `best_counts` of `src/best.rt`.
+-- What shows the clauses of `best_wide` of `src/best.rt`.
 use Rattle.std.proofs.Common.{ℕ, ◌+◌, List, length, map, get_or, refl, sym, ap, subst, ◌∙◌, arith}
 use Rattle.std.specs.List.{range_with_len}
 use Rattle.tn_counts.specs.Markets.{ArePins}
 use Rattle.tn_counts.specs.Tree.{AreLinksOf}
 use Rattle.tn_tree.proofs.SolveLemmas.{best_read, pins_are, sized_by}
-use Rattle.tn_tree.proofs.best.best_counts.Goals as goal
+use Rattle.tn_tree.proofs.best.best_wide.Goals as goal
 
 pub links_of-requires-clause-pins : goal.links_of-requires-clause-pins
 links_of-requires-clause-pins c =
