@@ -500,6 +500,7 @@ class StateByCounts(State):
 @dataclass(frozen=True)
 class SessionByCounts(Session):
     """Of `session` where trades have units. edits: a tuple of StateByCounts, one for each edit, in order."""
+    columns = ("edit", "trade", "units", "on", "surplus")
 
     def rows(self) -> list[Json]:
         """A row for each edit with the members of Session, and with the `units` that it admits, None where it doesn't say; what is
