@@ -280,7 +280,7 @@ class State:
 class Session(Answer):
     """Of `session`: an equilibrium after each edit. edits: a tuple of State, one for each edit, in order."""
     answer = "session"
-    columns = ("edit", "trade", "on", "surplus")
+    columns: ClassVar[tuple[str, ...]] = ("edit", "trade", "on", "surplus")
     edits: tuple[State, ...]
 
     def rows(self) -> list[Json]:
@@ -501,6 +501,7 @@ class StateByCounts(State):
 class SessionByCounts(Session):
     """Of `session` where trades have units. edits: a tuple of StateByCounts, one for each edit, in order."""
     columns = ("edit", "trade", "units", "on", "surplus")
+    nullable = ("units",)
 
     def rows(self) -> list[Json]:
         """A row for each edit with the members of Session, and with the `units` that it admits, None where it doesn't say; what is
