@@ -11,7 +11,7 @@ from .kinds import Json
 from .plots import needed
 from .program import Asked, Path
 from .questions import solve
-from .standing import asked_ranges, at, network, whole
+from .standing import asked_ranges, at, at_ranges, network, whole
 from .streams import stream
 
 MOST_EDITS = 256  # of one session, in every version: each state of an answer lists the prices of all trades
@@ -143,8 +143,8 @@ def _utilities(found: Ranges, program: Optional[Path]) -> tuple[Firms, Firms, Op
     plain = network(found.document)
     prices = solve(plain, program=program).prices
     low, high = whole(found.lowest), whole(found.highest)
-    asked = [at(plain, found.on, prices), at(plain, (), prices)]
-    asked += [at(plain, found.on, bounds) for bounds in (low, high) if bounds is not None]
+    asked = [at_ranges(found, prices), at(plain, (), prices)]
+    asked += [at_ranges(found, bounds) for bounds in (low, high) if bounds is not None]
     said = iter([each for each in _told(stream("firms", asked, program=program)) if isinstance(each, Firms)])
     return next(said), next(said), None if low is None else next(said), None if high is None else next(said)
 
