@@ -10,6 +10,7 @@ use Rattle.tn_counts.specs.Laminar.{firms_of}
 use Rattle.tn_counts.specs.Tree.{sold_at}
 use Rattle.tn_counts.proofs.SurplusLemmas.{cycles_more}
 use Rattle.tn_counts.proofs.WelfareLemmas.{equilibria_efficient}
+use Rattle.tn_counts.proofs.WideLemmas.{wide_market}
 use Rattle.tn_unit_laws.specs.Laws.{EquilibriaByCountsAreStable, MoreSurplusBarsUnitPrices, NegativeCyclesBarUnitPrices}
 use Rattle.tn_unit_laws.specs.Units.{first_units, price_of_unit, unit_firms, unit_trades, units_on}
 use Rattle.tn_unit_laws.proofs.BundleLemmas.{fits_network}
@@ -45,7 +46,7 @@ more_bars firms trades on counts fit more scale prices least equal =
 pub cycles_bar_units : NegativeCyclesBarUnitPrices
 cycles_bar_units market links levels lot first rest cost is of kept gain on have =
     let trades = market.trades.items in
-    let more = cycles_more market links levels lot first rest cost is of kept gain in
+    let more = cycles_more market links levels lot first rest cost (wide_market market is) of kept gain in
     let fit = markets_fit market is in
     let negative = gain.negative in
     more_bars (firms_of market) market.trades.items on (sold_at market (pushed links lot levels first rest first)) fit
