@@ -1,6 +1,6 @@
 -- What is found of a document's market is so of the firms that the document writes.
-use Rattle.std.proofs.Common.{◌≡◌, ℕ, zero, suc, ◌+◌, ◌^◌, ◌<◌, ◌≤◌, List, length, get_or, Option, Some, None, option_map, slice_get, refl, sym, ap, ap₂, subst, ◌∙◌, arith, ℤ, pos, ◌+ℤ◌, ◌-ℤ◌, ◌≤ℤ◌, ◌*ℤ◌}
-use Rattle.std.specs.Prelude.{All, ◌<ℤ◌, unwrap_or}
+use Rattle.std.proofs.Common.{◌≡◌, ℕ, zero, suc, ◌<◌, ◌≤◌, List, length, get_or, Option, Some, None, option_map, slice_get, refl, sym, ap, ap₂, subst, ◌∙◌, arith, ℤ, pos, ◌+ℤ◌, ◌-ℤ◌, ◌≤ℤ◌, ◌*ℤ◌}
+use Rattle.std.specs.Prelude.{◌<ℤ◌, unwrap_or}
 use Rattle.std.proofs.Math.IntN.{negsuc}
 use Rattle.std.proofs.lemmas.Int.{ints}
 use Rattle.std.proofs.lemmas.Option.{none-some, same_Some, slice_get-get_or, slice_get_within}
@@ -23,7 +23,7 @@ use Rattle.tn_tree.specs.declared.held.FirmCount.{FirmCount}
 use Rattle.tn_unit_answers.specs.Bundles.{unit_bundle}
 use Rattle.tn_unit_answers.specs.Check.{AreBestBefore, IsArrangedEquilibrium, IsFirstBettered, IsFirstImpossible}
 use Rattle.tn_unit_answers.specs.Judged.{AreContentBefore, IsFirstWith, IsJudged}
-use Rattle.tn_unit_answers.proofs.SolutionLemmas.{ends_are, firms_count, has_worths, trade_is}
+use Rattle.tn_unit_answers.proofs.SolutionLemmas.{ends_are, firms_count, has_worths}
 
 -- counts that are best by one value are best by another that is the same
 best_by : (trades : List UnitTrade) (one other : (ℕ → ℕ) → Option ℤ) (counts : ℕ → ℕ) (value : ℤ)

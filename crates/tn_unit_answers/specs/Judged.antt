@@ -1,6 +1,6 @@
 -- What is found of counts and prices in a document whose trades have units.
 use Rattle.std.specs.Prelude.{◌≡◌, ℕ, ◌<◌, ℤ, pos, List, length, slice_get, Option, Some, None}
-use Rattle.tn_counts.specs.Counts.{AreCounts, CountFirm, count_surplus}
+use Rattle.tn_counts.specs.Counts.{CountFirm, count_surplus}
 use Rattle.tn_counts.specs.declared.trade.UnitTrade.{UnitTrade}
 use Rattle.tn_read_units.specs.Firms.{UnitDocument}
 use Rattle.tn_read_units.specs.Worths.{written_firms}

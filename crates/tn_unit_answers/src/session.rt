@@ -243,7 +243,8 @@ fn next_state(
     let usable = usable_trades(alloc, trades, &standing.admitted, &standing.away)?;
     standing.market.trades = usable;
     let solved = solve_market(alloc, &standing.market)?;
-    state_of(alloc, &standing.market.trades, &solved)
+    let state = state_of(alloc, &standing.market.trades, &solved)?;
+    Ok(state)
 }
 
 /// A state after each edit, in order.

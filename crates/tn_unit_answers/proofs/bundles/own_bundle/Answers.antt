@@ -1,5 +1,5 @@
 -- What shows the clauses of `own_bundle` of `src/bundles.rt`.
-use Rattle.std.proofs.Common.{◌≡◌, ◌+◌, length, map, ap, ◌∙◌, arith}
+use Rattle.std.proofs.Common.{◌≡◌, length, map, ap, ◌∙◌, arith}
 use Rattle.std.specs.Prelude.{nat_lt}
 use Rattle.std.specs.List.{filter, range_with_len}
 use Rattle.tn_tree.specs.Lists.{own_counts}

@@ -1,5 +1,5 @@
 -- What shows the clauses of `answer_unit_check` of `src/check.rt`.
-use Rattle.std.proofs.Common.{List, length, None, Some, subst, sym, ◌∙◌, arith}
+use Rattle.std.proofs.Common.{List, length, None, Some, subst, arith}
 use Rattle.std.proofs.lemmas.Int.{ints, to_z-of_z}
 use mir.Syntax.{w128}
 use mir.Val.{SFits}

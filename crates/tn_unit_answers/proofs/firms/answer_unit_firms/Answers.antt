@@ -1,8 +1,7 @@
 -- What shows the clauses of `answer_unit_firms` of `src/firms.rt`.
-use Rattle.std.proofs.Common.{◌≤◌, List, length, count_by, refl, sym, ap, subst, ◌∙◌, arith}
+use Rattle.std.proofs.Common.{List, length, count_by, refl, sym, ap, subst, ◌∙◌, arith}
 use Rattle.std.specs.Prelude.{All}
 use Rattle.tn_answer.specs.Kept.{IsWithinUnitHolding}
-use Rattle.tn_counts.specs.Widths.{most_unit_firms}
 use Rattle.tn_counts.specs.declared.trade.UnitTrade.{UnitTrade}
 use Rattle.tn_read_units.specs.Worths.{written_firms}
 use Rattle.tn_said.specs.declared.units.UnitHolding.{UnitHolding}

@@ -30,7 +30,7 @@ state_of-requires-clause-few c =
     (made_usable c.args.document.now c.args.standing.now c.trades-trades.result.now c.in_ok-usable.usable.items
     c.deref.result.now c.deref-2.result.now c.in_ok-usable.ensures c.deref.ensures.value c.deref-2.ensures.value
     c.trades-trades.ensures.is) refl refl).is.few_trades in
-    let same = ap length c.deref-4.ensures.value in
+    let same = ap length c.deref-3.ensures.value in
     omega (arith, few, same)
 
 pub returns-clause-standing : goal.returns-clause-standing
@@ -59,7 +59,7 @@ returns-clause-state c =
     c.in_ok-state.state (returns-clause-standing c).market units c.in_ok-solved.ensures.equilibrium
     c.in_ok-solved.ensures.surplus c.in_ok-solved.ensures.counts c.in_ok-solved.ensures.prices
     c.in_ok-state.ensures.on (c.in_ok-state.ensures.prices
-    ∙ ap (λ (xs : List UnitTrade). priced xs c.in_ok-solved.solved.prices.items) c.deref-4.ensures.value)
+    ∙ ap (λ (xs : List UnitTrade). priced xs c.in_ok-solved.solved.prices.items) c.deref-3.ensures.value)
     c.in_ok-state.ensures.surplus
 
 pub returns-clause-within : goal.returns-clause-within
@@ -71,7 +71,7 @@ returns-clause-within c =
     (away_in c.args.standing.now.away.items) c.requires.within c.in_ok-solved.solved.prices.items c.in_ok-state.state
     (returns-clause-state c)
     (c.in_ok-state.ensures.prices
-    ∙ ap (λ (xs : List UnitTrade). priced xs c.in_ok-solved.solved.prices.items) (c.deref-4.ensures.value ∙ units))
+    ∙ ap (λ (xs : List UnitTrade). priced xs c.in_ok-solved.solved.prices.items) (c.deref-3.ensures.value ∙ units))
     (c.in_ok-solved.ensures.prices ∙ ap length units) c.in_ok-solved.ensures.small_prices
     (subst (λ (z : ℤ). IsAtMost z most_unit_surplus) (sym c.in_ok-state.ensures.surplus)
     c.in_ok-solved.ensures.small_surplus)

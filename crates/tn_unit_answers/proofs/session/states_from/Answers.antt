@@ -3,11 +3,20 @@ use Rattle.std.proofs.Common.{◌++◌, ◌∷◌, [], List, take, sym, ◌∙�
 use Rattle.std.specs.Prelude.{All}
 use Rattle.std.proofs.lemmas.List.{length-append}
 use Rattle.std.proofs.lemmas.List.Elements.{All-push}
+use Rattle.std.proofs.lemmas.Option.{get_or_from_slice_get, slice_get_within}
 use Rattle.tn_answer.specs.Kept.{IsWithinUnitState}
 use Rattle.tn_said.specs.declared.session.UnitEdit.{UnitEdit}
+use Rattle.tn_read_unit_parts.specs.Edited.{IsKnownUnitEdit}
 use Rattle.tn_unit_answers.specs.Standing.{StandsAfter}
 use Rattle.tn_unit_answers.proofs.StandingLemmas.{state_after, states_more, take_one}
 use Rattle.tn_unit_answers.proofs.session.states_from.Goals as goal
+
+pub take_edit-requires-clause-known : goal.take_edit-requires-clause-known
+take_edit-requires-clause-known c =
+    let edit = c.at.result.now in
+    subst (IsKnownUnitEdit (length c.args.document.now.head.names.firms) c.args.document.now.head.trades)
+    (get_or_from_slice_get c.args.edits.now c.loop-k.k edit edit c.at.ensures)
+    (c.requires.known c.loop-k.k edit (slice_get_within c.args.edits.now c.loop-k.k edit c.at.ensures))
 
 pub loop-k-preserved : goal.loop-k-preserved
 loop-k-preserved c =
