@@ -96,7 +96,7 @@ function stretched(found, boxes, room) {
     const at = (point) => ({x: x(point.x), y: y(point.y)});
     const centers = new Map([...found.centers].map(([id, center]) => [id, at(center)]));
     const hasBends = found.arrows.some(({bends}) => bends.length > 0);
-    return {width, height, centers: hasBends || height === found.height ? centers : evenly(centers, height),
+    return {width, height, centers: hasBends || found.isDown || height === found.height ? centers : evenly(centers, height),
         arrows: found.arrows.map(({bends, label}) => ({bends: bends.map(at), label: label && at(label)}))};
 }
 

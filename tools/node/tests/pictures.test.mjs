@@ -3,6 +3,7 @@
 import assert from "node:assert/strict";
 import {test} from "node:test";
 import {barsPicture} from "../../../page/draw/bars.js";
+import {compact, filled} from "../../../page/draw/layout.js";
 import {networkPicture} from "../../../page/draw/network.js";
 import {whyPicture} from "../../../page/draw/why.js";
 import {readAnswer} from "../../../page/read/answer.js";
@@ -122,4 +123,13 @@ test("cycles of any length up to 40 are drawn legibly", async () => {
         assert.equal([...svg.matchAll(/data-node=/g)].length, length);
         isLegible(svg, `a cycle of ${length}`);
     }
+});
+
+test("boxes of a picture that goes down stay in their layers where it is made higher", () => {
+    const boxes = ["A", "B", "C", "D", "E", "F"].map((id) => ({id, width: 80, height: 40}));
+    const arrows = [["A", "D"], ["B", "D"], ["C", "E"], ["D", "F"], ["E", "F"]].map(([from, to]) => ({from, to, size: null}));
+    const {centers} = filled(compact(boxes, arrows, false, "TB"), boxes, arrows, {width: 400, height: 500});
+    const at = boxes.map(({id, ...size}) => ({...centers.get(id), ...size}));
+    at.forEach((box, k) => at.slice(k + 1).forEach((other) => assert.ok(!meet(box, other), `${boxes[k].id} lies on another box`)));
+    for (const {from, to} of arrows) assert.ok(centers.get(from).y < centers.get(to).y, `${from} is above ${to}`);
 });
