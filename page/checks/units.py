@@ -1,9 +1,10 @@
-"""What is tried of documents whose trades have units, by pointer and keys: quantities and prices that are guessed, who objects, the form,
-and the views that say that they aren't there yet."""
+"""What is tried of documents whose trades have units, by pointer and keys: quantities and prices that are guessed, who objects, so many
+units that are admitted, the form, and the views that say that they aren't there yet."""
 import json
 
 import bench
 import look
+import whatif
 
 # The texts of the cells of the table of units, row by row, and whether it is shown.
 COUNTED = """
@@ -30,7 +31,7 @@ def put(page: bench.Bench, key: str, number: str) -> None:
 
 def tries(page: bench.Bench, program: str | None):
     """Each as a name, and whether it is so."""
-    for part in (tries_to_guess, tries_of_reasons, tries_of_shut_views, tries_of_the_form, tries_of_answers):
+    for part in (tries_to_guess, tries_of_reasons, tries_of_what_ifs, tries_of_shut_views, tries_of_the_form, tries_of_answers):
         yield from part(page, program)
 
 
@@ -114,9 +115,72 @@ def tries_of_reasons(page: bench.Bench, program: str | None):
     yield "a link brings it back", page.text() == text and page.guess().startswith("\u2713")
 
 
+def told_as(states: list[dict], trade: str) -> list[str]:
+    """A trade before and after, as the table tells it: its units and their price, or that it can't be used."""
+    told = [(dict(map(tuple, state["on"])).get(trade, 0), dict(map(tuple, state["prices"])).get(trade)) for state in states]
+    return ["away" if price is None else f"{count} at {price}" for count, price in told]
+
+
+def tries_of_what_ifs(page: bench.Bench, program: str | None):
+    page.open("mills-low-price.json", look.example("mills-low-price.json"))
+    page.click("#tab-whatif")
+    yield "a market with units has what-ifs", whatif.supposed(page) == "With everybody there the worths sum to 44300."
+    before, names = page.text(), [trade["name"] for trade in json.loads(page.text())["trades"]]
+    page.focus("leave:Mill-B")
+    page.press(" ")
+    said = whatif.supposed(page)
+    then, now = whatif.sessions(page, program, [["admit", "*"], ["leave", "Mill-B"]])
+    sums = f"the worths sum to {now['surplus']} in place of {then['surplus']}, which is {then['surplus'] - now['surplus']} less."
+    yield "a mill leaves", said == f"Mill-B leaves: {sums}"
+    cells = whatif.rows(page)
+    yield "each trade has its units and its price before and after", all(cells[name][1:3] == told_as([then, now], name) for name in names)
+    utilities = [whatif.standing(page, program, state) for state in (then, now)]
+    yield "and each firm its utilities", all(cells[name][:2] == [each[name] for each in utilities] for name in ("Mill-A", "North", "Z"))
+    lanes = page.drawn()["lanes"]
+    wanted = {"b-n": "0 of 300 units, can't be used, 200 before", "a-n": "350 of 350 units, more than 300 before"}
+    yield "the network has them", all(says in lanes[name]["says"] for name, says in wanted.items())
+    yield "with a sign, and not by a colour alone", any(label.startswith("+ a-n: 350/350") for label in page.drawn()["labels"])
+    put(page, "admitted:a-n", "100")
+    said = whatif.supposed(page)
+    field = page.value("[document.activeElement.dataset.key, document.activeElement.value, document.activeElement.selectionStart]")
+    yield "so many units are admitted as are typed", said.startswith("Mill-B leaves and 100 units of a-n are admitted:") and field == ["admitted:a-n", "100", 3]
+    yield "which go of so many", "100 of 100 units, fewer than 300 before" in page.drawn()["lanes"]["a-n"]["says"]
+    put(page, "admitted:a-n", "351")
+    yield "but none beyond the units of the trade", "from 0 to 350" in page.value("document.querySelector('#whatif-trades .refusal').textContent")
+    page.press("Escape")
+    page.press("ArrowDown")
+    yield "a key admits one fewer", "and 34 units of a-n are" in whatif.supposed(page)
+    page.click(bench.label("Mill-A North"))
+    yield "a click bars the trade", "and a-n is barred" in whatif.supposed(page)
+    page.click(bench.label("Mill-A North"))
+    yield "and another one admits all of it", whatif.supposed(page).startswith("Mill-B leaves: ")
+    put(page, "admitted:c-s", "50")
+    whatif.supposed(page)
+    page.click("#whatif-on")
+    yield "one goes on from there", whatif.supposed(page).startswith("While Mill-B is away and c-s has only 50 admitted units the worths sum to ")
+    page.focus("leave:Mill-B")
+    page.press(" ")
+    whatif.supposed(page)
+    yield "and the text is as it was", page.text() == before
+    page.click("#whatif-put")
+    edits = [["admit", "*"], ["leave", "Mill-B"], ["admit", "c-s", 50], ["join", "Mill-B"]]
+    yield "it goes into the document by a button", json.loads(page.text())["edits"] == edits
+    link, text = page.link(), page.text()
+    page.again(page.value("location.href.split('#')[0]") + link[link.index("#"):])
+    yield "which a link hands on", page.text() == text
+    page.open("mills-low-price.json", before.encode())
+    page.click("#tab-whatif")
+    whatif.supposed(page)
+    put(page, "admitted:a-n", "7")
+    whatif.supposed(page)
+    page.click("#whatif-all")
+    said, field = whatif.supposed(page), page.value("document.querySelector('[data-key=\"admitted:a-n\"]').value")
+    yield "all are admitted again", said == "With everybody there the worths sum to 44300." and field == "350"
+
+
 def tries_of_shut_views(page: bench.Bench, program: str | None):
     page.open("mills-low-price.json", look.example("mills-low-price.json"))
-    for name in ("sign", "whatif", "claim"):
+    for name in ("sign", "claim"):
         page.click(f"#tab-{name}")
         shown = page.value("document.getElementById('shut-says').checkVisibility()")
         yield f"{name} says in a sentence that it isn't there yet", shown and page.says("shut-says").startswith("Trades have units here") and page.guess().startswith("\u2717")

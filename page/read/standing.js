@@ -15,6 +15,11 @@ export function unitsOf(on) {
     return new Map(itemsOf(on).filter((entry) => Array.isArray(entry) && entry[1] !== 0n));
 }
 
+/** How many units of each trade are on, by its name; one of each where none are told. */
+export function countsOn(on) {
+    return new Map(itemsOf(on).map((entry) => (Array.isArray(entry) ? entry : [entry, 1n])));
+}
+
 /** The name of a trade in a list, in which it stands with its units, with a step by one unit, or alone; null as it is. */
 export function nameOn(entry) {
     return Array.isArray(entry) ? entry[0] : entry;

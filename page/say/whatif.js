@@ -1,27 +1,34 @@
 // What comes of a firm that leaves or joins, or of a trade that comes or goes, in sentences. What is told is
 // `{states, before, after}`: the states before and after a change, and who is away and what is barred in each.
-import {editsBetween, isIn} from "../read/states.js";
+import {hasUnits} from "../read/limits.js";
+import {alike, editsBetween, isIn} from "../read/states.js";
 import {say} from "../words/say.js";
 import {edit} from "./session.js";
 import {listed} from "./words.js";
 
-const IS = {leave: "whatif.is_away", bar: "whatif.is_barred"};
+const IS = {leave: "whatif.is_away", bar: "whatif.is_barred", admit: "whatif.are_admitted"};
 
 /** What isn't there before a change, as parts of a sentence; none where all are. */
 function missing(before) {
-    return listed(before.map(([does, name]) => say(IS[does], {name})));
+    return listed(before.map(([does, name, count]) => say(IS[does], {name, count})));
+}
+
+/** A change as a sentence without its point: of a trade of which fewer units were admitted than it has, that all are. */
+function changeSays(change, before) {
+    const [does, name, units] = change, isWhole = does === "admit" && units === undefined && alike(before, change)?.[2] !== undefined;
+    return isWhole ? say("whatif.all_admitted", {name}) : edit(change);
 }
 
 /** What changes, and what that does to the sum of the worths. */
 export function changeLine({states: [then, now], before, after}) {
-    const changes = editsBetween(before, after).map(edit);
-    if (changes.length > 0) return changed(listed(changes), then.surplus, now.surplus);
+    const changes = editsBetween(before, after).map((change) => changeSays(change, before));
+    if (changes.length > 0) return sumChanged(listed(changes), then.surplus, now.surplus);
     const {surplus} = then;
     return before.length === 0 ? say("whatif.all_there", {surplus})
         : say("whatif.while", {missing: missing(before), surplus});
 }
 
-function changed(changes, then, now) {
+function sumChanged(changes, then, now) {
     if (now === then) return say("whatif.same", {changes, now});
     return now < then ? say("whatif.less", {changes, then, now, less: then - now})
         : say("whatif.more", {changes, then, now, more: now - then});
@@ -40,14 +47,21 @@ export function startLine({before, from, isOwn}) {
     return before.length === 0 ? say(STARTS[from][isOwn]) : "";
 }
 
+/** How many units of a trade are on before and after a change; one where it has no more and is on. */
+export function unitsOf({states}, name) {
+    return states.map(({counts}) => counts.get(name) ?? 0n);
+}
+
 /**
- * The part that a trade plays: where it takes place at all it `stays`, `goes` or `comes`, and otherwise it is `off`.
- * What can't be used after the change is `gone` where it took place before, and `out` where it didn't.
+ * The part that a trade plays: where it takes place at all it `stays`, `goes` or `comes`, and otherwise it is `off`; where it takes place
+ * before and after with other units these are `more` or `fewer`. What can't be used after the change is `gone` where it took place before,
+ * and `out` where it didn't.
  */
-export function partOf({states: [then, now]}, name) {
-    const was = then.on.includes(name), isUsable = now.prices.some(([other]) => other === name);
-    if (now.on.includes(name)) return was ? "stays" : "comes";
-    if (was) return isUsable ? "goes" : "gone";
+export function partOf(told, name) {
+    const [was, is] = unitsOf(told, name), isUsable = told.states[1].prices.has(name);
+    if (is > 0n && was > 0n) return is > was ? "more" : is < was ? "fewer" : "stays";
+    if (is > 0n) return "comes";
+    if (was > 0n) return isUsable ? "goes" : "gone";
     return isUsable ? "off" : "out";
 }
 
@@ -58,8 +72,9 @@ const PARTS = [["whatif.go", "whatif.count_go", ["goes", "gone"]], ["whatif.come
 /** Up to how many trades are named one by one. */
 const FEW = 6;
 
-/** Which trades go, come and stay; where they are many, how many of each seller and buyer do. */
-export function tradesLine(told, {trades}) {
+/** Which trades go, come and stay; where they are many, how many of each seller and buyer do. Where they have units, of which there are others. */
+export function tradesLine(told, {trades, data}) {
+    if (hasUnits(data)) return unitsLine(told, trades);
     const said = PARTS.flatMap(([key, , parts]) => {
         const found = trades.filter(({name}) => parts.includes(partOf(told, name)));
         const named = found.length > FEW ? byEnds(found) : listed(found.map(({name}) => name));
@@ -77,6 +92,37 @@ function byEnds(trades) {
     return listed([...counts.values()].map((each) => say("whatif.many", each)));
 }
 
+/** The trades that are told together where they have units: the key of that, and whether more or fewer units are on, or as many. */
+const UNIT_PARTS = [["whatif.fewer_units", (was, is) => is < was], ["whatif.more_units", (was, is) => is > was], ["whatif.as_many", (was, is) => is === was]];
+
+function unitsLine(told, trades) {
+    const taking = trades.map(({name}) => name).filter((name) => unitsOf(told, name).some((count) => count > 0n));
+    const named = (names) => few(names.map((name) => say("whatif.trade_units", {name, units: unitsSay(told, name)})));
+    if (taking.length === 0) return say("whatif.nothing");
+    if (editsBetween(told.before, told.after).length === 0) return say("whatif.units", {trades: named(taking)});
+    const parts = UNIT_PARTS.flatMap(([key, isIts]) => {
+        const found = taking.filter((name) => isIts(...unitsOf(told, name)));
+        return found.length === 0 ? [] : [say(key, {trades: named(found)})];
+    });
+    return say("whatif.units", {trades: parts.join("; ")});
+}
+
+/** The first of some parts of a sentence where they are many. */
+function few(parts) {
+    return parts.length <= FEW ? listed(parts) : say("list.more", {names: parts.slice(0, FEW).join(", "), rest: parts.length - FEW});
+}
+
+/** How many units of a trade are on before and after, and at which prices. */
+function unitsSay(told, name) {
+    const prices = told.states.map((state) => state.prices.get(name)).filter((price) => price !== undefined), count = changed(unitsOf(told, name));
+    return prices.length === 0 ? count : say("picture.units", {count, price: changed(prices)});
+}
+
+/** One number, or two of which one becomes the other. */
+function changed([then, now = then]) {
+    return then === now ? String(now) : `${then} \u2192 ${now}`;
+}
+
 /** How many of some trades go, come and stay, as `{before, after, says}`. */
 export function countsOf(told, names) {
     const counts = PARTS.map(([, key, parts]) => {
@@ -86,6 +132,11 @@ export function countsOf(told, names) {
     const [goes, comes, stays] = counts.map(({count}) => count);
     const says = counts.filter(({count}) => count > 0).map((each) => each.says).join(", ");
     return {before: goes + stays, after: comes + stays, says};
+}
+
+/** How many units of some trades are on before and after. */
+export function unitsIn(told, names) {
+    return [0, 1].map((k) => names.reduce((sum, name) => sum + unitsOf(told, name)[k], 0n));
 }
 
 /** Whether a firm is away before and after, and which utility it has where that is known. */
@@ -126,12 +177,12 @@ export function paidOf({states: [{lines}]}, firm, {firms, nothing}) {
     return contributed === undefined || worth === null || least === null ? null : worth - contributed - least;
 }
 
-/** A trade before and after, as two texts: on or off, at which price, or why it can't be used. */
-export function tradeStates({states, before, after}, name) {
+/** A trade before and after, as two texts: on or off, or how many units are on, at which price, or why it can't be used. */
+export function tradeStates({states, before, after}, name, isCounted = false) {
     return [before, after].map((edits, k) => {
-        const {on, prices} = states[k], price = prices.find(([other]) => other === name)?.[1];
+        const count = states[k].counts.get(name) ?? 0n, price = states[k].prices.get(name);
         if (price === undefined) return say(isIn(edits, ["bar", name]) ? "word.barred" : "word.away");
-        return say(on.includes(name) ? "whatif.on_at" : "whatif.off_at", {price});
+        return isCounted ? say("picture.units", {count, price}) : say(count > 0n ? "whatif.on_at" : "whatif.off_at", {price});
     });
 }
 

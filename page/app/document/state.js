@@ -215,16 +215,17 @@ export function isCounted({document}) {
 }
 
 /** The views that ask commands which don't answer documents whose trades have units, each with the key of what is said there instead. */
-const SHUT = {sign: "counted.sign", whatif: "counted.whatif", claim: "counted.claim"};
+const SHUT = {sign: "counted.sign", claim: "counted.claim"};
 
 /** The key of what is said in the place of the view, where it can't be of such a document; or null. */
 export function shutBy(value) {
     return isCounted(value) ? SHUT[value.view.panel] ?? null : null;
 }
 
-/** Beside a view that is shut the network shows the guess. */
+/** Beside a view that is shut the network shows the guess, with which a what-if begins then, too. */
 function withUnits(value) {
-    return value.view.mode in SHUT ? looked(value, {mode: "guess"}) : value;
+    const {mode, from} = value.view, open = (name) => (name in SHUT ? "guess" : name);
+    return open(mode) === mode && open(from) === from ? value : looked(value, {mode: open(mode), from: open(from)});
 }
 
 /** The views that an easy page hasn't. */

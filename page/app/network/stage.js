@@ -28,9 +28,10 @@ function digitsOf(stands, lines, isByUnits) {
 }
 
 /**
- * The picture as SVG, with its size: `{svg, width, height, plan}`. `stands` has the trades that are on and the prices, `lines` those of
- * `firms`, by name, or `{mood, below, says}` with what is to be said of a firm, `marks` the colours of trades with what they say,
- * `focus` the names of the firms that are spoken of, and `selection` what is chosen.
+ * The picture as SVG, with its size: `{svg, width, height, plan}`. `stands` has the trades that are on and the prices, and where trades have
+ * units also these, and how many are `admitted` where that isn't all; `lines` those of `firms`, by name, or `{mood, below, says}` with what
+ * is to be said of a firm, `marks` the colours of trades with what they say, `focus` the names of the firms that are spoken of, and
+ * `selection` what is chosen.
  */
 export function stageOf({network, firm, room, stands, lines, marks, focus, selection, hasOwn}) {
     const digits = digitsOf(stands, [...lines.values()], hasUnits(network.data));
@@ -65,9 +66,10 @@ function flowOf(lanes, {units = new Map()}) {
     return {units: over, most};
 }
 
-/** What is told of the units of a lane, and how wide it is drawn. */
-function countOf({trades, most}, {units, most: top}, mark) {
+/** What is told of the units of a lane, and how wide it is drawn; where fewer may be admitted than there are, these are the most. */
+function countOf({trades, most: all}, {units, most: top}, mark, {admitted}) {
     const count = units.get(trades[0]), then = trades.length === 1 && mark?.counts?.has(trades[0]) ? mark.counts.get(trades[0]) : null;
+    const most = admitted ? trades.reduce((sum, name) => sum + admitted.get(name), 0n) : all;
     return {count, most, then, thick: LEAST + (WIDEST - LEAST) * Number(count) / Number(top)};
 }
 
@@ -77,7 +79,7 @@ function laneAt(lane, on, stands, marks, selection, flow) {
     const isChosen = selection?.kind === "lane" && selection.key === laneKey(lane);
     const price = spanOf(isOn ? taking : lane.trades, shownPrices(stands));
     const isSigned = stands.isSigned ?? false, counts = {on: taking.length, all: lane.trades.length};
-    const units = flow === null ? null : countOf(lane, flow, mark);
+    const units = flow === null ? null : countOf(lane, flow, mark, stands);
     const name = lane.trades.length === 1 ? tradeLabel(lane.trades[0]) : say(isSigned ? "stage.signed" : "stage.on", counts);
     const isNamed = isOn || mark !== null || isChosen, rank = (isChosen ? 4 : 0) + (isOn ? 2 : 0) + (mark ? 1 : 0);
     return {...lane, key: laneKey(lane), name, price, units, isOn, mark, isChosen, isNamed, rank, isSigned};

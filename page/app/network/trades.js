@@ -6,8 +6,9 @@ import {outcomeOf} from "../document/contracts.js";
 import {isCounted, isOld, networkOf} from "../document/state.js";
 import {countOf, setCount, setPrice, termsOf, turn} from "../document/terms.js";
 import {made, part} from "../shell/page.js";
-import {isRefused, leaving, refuse, typedIn, wholeIn, whyNotWhole} from "../shell/whole.js";
+import {leaving, showWhole, typedIn, wholeIn, whyNotWhole} from "../shell/whole.js";
 import {boundsAt, isWithin, scaleOf} from "./bounds.js";
+import {countField, showCount} from "./counts.js";
 import {laneKey} from "./stage.js";
 
 const HEADS = [["head.trade", "name"], ["head.from", "seller"], ["head.to", "buyer"], ["head.on", "on"],
@@ -143,15 +144,13 @@ function gap(count) {
 }
 
 /** How a price is read from its field, and what stands in the document in its place. */
-const PRICE = (field) => ({read: (text) => wholeIn(text), why: (text) => whyNotWhole(text), shown: () => field.dataset.price});
-
-const FIELD = {type: "text", size: 6, autocomplete: "off"};
+const PRICE = (field) => ({read: (text) => wholeIn(text), why: (text) => whyNotWhole(text), shown: () => field.dataset.shown});
 
 /** A row with its button and field, which outlives changes. */
 function rowFor(name) {
     const row = made("tr", "", {"data-trade": name});
     const on = made("input", "", {type: "checkbox", "data-key": `on:${name}`});
-    const price = made("input", "", {...FIELD, "data-key": `price:${name}`});
+    const price = made("input", "", {type: "text", size: 6, autocomplete: "off", "data-key": `price:${name}`});
     on.addEventListener("change", () => turn(store, name, on.checked));
     const units = unitsField(name);
     price.addEventListener("input", () => typed(name, price));
@@ -160,38 +159,18 @@ function rowFor(name) {
     price.addEventListener("keydown", (event) => stepped(event, name, price));
     const head = made("th", name, {scope: "row"});
     const cells = [null, null, null, "number", "bounds"].map((kind) => made("td", "", {class: kind}));
-    cells[2].append(on, units, made("span", "", {class: "quiet"}));
+    cells[2].append(on, ...units);
     cells[3].append(price);
     row.append(head, ...cells);
     return row;
 }
 
-/** How the units of a trade are typed: none to all that it has. */
-const UNITS = (name, field) => {
-    const most = () => networkOf(store.value.document).capacity(name);
-    const read = (text) => {
-        const whole = wholeIn(text);
-        return whole !== null && BigInt(whole) >= 0n && BigInt(whole) <= most() ? whole : null;
-    };
-    return {read, why: (text) => wholeIn(text) === null ? whyNotWhole(text) : say("number.between", {least: 0, most: most()}), shown: () => field.dataset.price ?? ""};
-};
-
 /** The field of how many units of a trade go. */
 function unitsField(name) {
-    const field = made("input", "", {...FIELD, "data-key": `units:${name}`}), reading = UNITS(name, field);
-    const take = (whole, mark) => setCount(store, name, BigInt(whole), mark);
-    field.addEventListener("input", () => typedIn(field, {...reading, take: (whole) => take(whole, `count of ${name}`)}));
-    leaving(field, reading);
+    const put = (count, isTyped) => setCount(store, name, count, isTyped ? `count of ${name}` : null);
+    const [field, of] = countField(`units:${name}`, {most: () => networkOf(store.value.document).capacity(name), now: () => countOf(store.value, name), put});
     field.addEventListener("focus", () => chosen(name));
-    field.addEventListener("keydown", (event) => {
-        const step = {ArrowUp: 1n, ArrowDown: -1n}[event.key];
-        if (step === undefined || wholeIn(field.value) === null) return;
-        event.preventDefault();
-        take(countOf(store.value, name) + step);
-        field.value = String(countOf(store.value, name));
-        refuse(field, null);
-    });
-    return field;
+    return [field, of];
 }
 
 /** Marks the trade of a field in the network, without moving the focus. */
@@ -218,7 +197,7 @@ function isChosen({name, seller, buyer}, selection) {
 }
 
 function update(element, row, place, value, {scale, range, isOldRange}) {
-    const [head, from, to, on, price, bounds] = element.cells, box = on.firstElementChild, units = on.children[1], field = price.firstElementChild;
+    const [head, from, to, on, price, bounds] = element.cells, box = on.firstElementChild, field = price.firstElementChild;
     element.setAttribute("aria-rowindex", place + 2);
     element.className = `${row.on ? "on" : ""}${isChosen(row, value.selection) ? " chosen" : ""}`.trim();
     for (const [cell, says, name] of [[head, tradeLabel(row.name), row.name], [from, firmLabel(row.seller), row.seller], [to, firmLabel(row.buyer), row.buyer]]) {
@@ -226,11 +205,11 @@ function update(element, row, place, value, {scale, range, isOldRange}) {
         cell.title = says === name ? "" : name;
     }
     box.checked = row.on;
-    showUnits(row, on, box, units);
+    showUnits(row, on);
     box.setAttribute("aria-label", say(value.view.mode === "sign" ? "stage.name_signed" : "stage.name_on",
         {name: row.name}));
     field.setAttribute("aria-label", say("stage.price_of", {name: row.name}));
-    showPrice(field, row.price === undefined ? "" : String(row.price));
+    showWhole(field, row.price === undefined ? "" : String(row.price));
     bounds.hidden = !range;
     const choose = (side) => store.act("selected", {kind: "bound", trade: row.name, side});
     boundsAt(bounds, {range, price: row.price, scale, isOld: isOldRange, selection: value.selection, choose});
@@ -238,25 +217,13 @@ function update(element, row, place, value, {scale, range, isOldRange}) {
 }
 
 /** Shows how many units of a trade go, and of how many, in the place of the box. */
-function showUnits({name, units: count}, cell, box, field) {
-    const isThere = count !== null, of = cell.lastElementChild;
+function showUnits({name, units: count}, cell) {
+    const isThere = count !== null, box = cell.firstElementChild, field = cell.children[1], of = cell.lastElementChild;
     box.hidden = isThere;
     for (const part of [field, of]) part.hidden = !isThere;
     cell.className = isThere ? "number" : "";
-    if (!isThere) return;
     const most = networkOf(store.value.document).capacity(name);
-    field.setAttribute("aria-label", say("stage.units_of", {name, most}));
-    showPrice(field, String(count));
-    of.textContent = say("stage.of", {most});
-}
-
-/** Shows a price or units in their field, but not in the place of what says the same, or was refused and nothing changed since. */
-function showPrice(field, shown) {
-    const isChanged = field.dataset.price !== shown;
-    field.dataset.price = shown;
-    if (isRefused(field) ? !isChanged : field === document.activeElement && wholeIn(field.value) === shown) return;
-    refuse(field, null);
-    field.value = shown;
+    if (isThere) showCount([field, of], count, most, say("stage.units_of", {name, most}));
 }
 
 /** Scrolls the first chosen row into sight, but not away from a field that somebody types in. */

@@ -56,6 +56,15 @@ export function isRefused(field) {
     return field.getAttribute("aria-invalid") === "true";
 }
 
+/** Shows a number in its field, but not in the place of what says the same, or was refused and nothing changed since. */
+export function showWhole(field, shown) {
+    const isChanged = field.dataset.shown !== shown;
+    field.dataset.shown = shown;
+    if (isRefused(field) ? !isChanged : field === document.activeElement && wholeIn(field.value) === shown) return;
+    refuse(field, null);
+    field.value = shown;
+}
+
 /** Takes what is typed in a field where it is right; `read` answers it, or null, `why` the reason, and `shown` what stands in the document. What is only begun isn't refused yet. */
 export function typedIn(field, {read, why, shown, take}) {
     const content = read(field.value);

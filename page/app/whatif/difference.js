@@ -1,7 +1,10 @@
 // What is said above the network, and drawn in it, of the market before and after a change.
 import {lanesOf} from "../../draw/lanes.js";
 import {COME, GONE, INK} from "../../draw/svg.js";
-import {changeLine, countsOf, firmSays, firmStates, isGone, partOf, tradesLine} from "../../say/whatif.js";
+import {hasUnits} from "../../read/limits.js";
+import {namesOn, unitsOf} from "../../read/standing.js";
+import {admittedIn} from "../../read/states.js";
+import {changeLine, countsOf, firmSays, firmStates, isGone, partOf, tradesLine, unitsIn} from "../../say/whatif.js";
 import {say} from "../../words/say.js";
 import {networkOf} from "../document/state.js";
 
@@ -27,25 +30,30 @@ const ROLES = {
 };
 
 /** The parts of trades that take place before or after. */
-const TAKING = ["stays", "comes", "goes", "gone"];
+const TAKING = ["stays", "comes", "goes", "gone", "more", "fewer"];
+
+/** What is said of arrows of trades with units, by their parts: how many were on before, too. */
+const WERE = {stays: "role.as_before", comes: "role.more", goes: "role.fewer", gone: "role.gone_units"};
 
 const NOWHERE = {on: [], prices: new Map()};
 
 /** What the network shows: the market after the change, with what comes and goes. */
 export function supposedScene({document, compared: said}) {
-    const scene = {lines: new Map(), marks: new Map(), focus: new Set(), signs: say("legend.whatif"), isOver: false,
-        key: ["whatif"]};
+    const network = networkOf(document), signs = say("legend.supposed", {signs: say(hasUnits(network.data) ? "legend.whatif_units" : "legend.whatif")});
+    const scene = {lines: new Map(), marks: new Map(), focus: new Set(), signs, isOver: false, key: ["whatif"]};
     if (!said?.states || said.document.text !== document.text) return {...scene, stands: NOWHERE};
-    const {trades, firms} = networkOf(document), parts = new Map(trades.map(({name}) => [name, partOf(said, name)]));
+    const {trades, firms} = network, parts = new Map(trades.map(({name}) => [name, partOf(said, name)]));
     const lines = new Map(firms.map(({name}) => [name, boxOf(said, name)]));
-    const stands = {on: said.states[1].on, prices: pricesOf(said, parts)};
-    return {...scene, stands, marks: marksOf(said, trades, parts), lines};
+    const {on} = said.states[1], admitted = new Map(trades.map(({name}) => [name, admittedIn(network, said.after, name)]));
+    const stands = {on: namesOn(on), units: unitsOf(on), prices: pricesOf(said, parts), admitted};
+    return {...scene, stands, marks: marksOf(said, network, parts), lines};
 }
 
 /** How each trade is drawn; where those from one firm to another play several parts, they are drawn as one. */
-function marksOf(said, trades, parts) {
+function marksOf(said, {trades, data}, parts) {
+    const markIn = hasUnits(data) ? unitsMark : markOf;
     const lanes = lanesOf(trades, {on: null, prices: new Map()}, new Map(), false).map((lane) => lane.trades);
-    const marks = lanes.map((names) => [names, markOf(said, names, new Set(names.map((name) => parts.get(name))))]);
+    const marks = lanes.map((names) => [names, markIn(said, names, new Set(names.map((name) => parts.get(name))))]);
     return new Map(marks.filter(([, mark]) => mark).flatMap(([names, mark]) => names.map((name) => [name, mark])));
 }
 
@@ -55,6 +63,14 @@ function markOf(said, names, played) {
     if (taking.length > 1) return mixed(countsOf(said, names));
     const role = ROLES[taking[0] ?? (played.has("out") ? "out" : "off")];
     return role ? {...role, says: say(role.says)} : null;
+}
+
+/** The same where trades have units, by how many of all of them are on. */
+function unitsMark(said, names, played) {
+    const taking = TAKING.filter((each) => played.has(each)), [was, is] = unitsIn(said, names);
+    if (taking.length === 0) return markOf(said, names, played);
+    const part = is > was ? "comes" : is === was ? "stays" : taking.every((each) => each === "gone") ? "gone" : "goes";
+    return {...ROLES[part], says: say(WERE[part], {was})};
 }
 
 /** How trades are drawn of which some stay or come, and others go. */

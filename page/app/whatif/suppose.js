@@ -1,7 +1,7 @@
 // What is asked of the program where somebody wonders what if: the market before and after a change is compared first,
 // and what each contributes is asked when that is there.
 import {NoAnswer} from "../../read/answer.js";
-import {compared, contributions, editsOf, isIn, ownStart} from "../../read/states.js";
+import {admittedIn, admitting, alike, compared, contributions, editsOf, isIn, ownStart} from "../../read/states.js";
 import {explain} from "../../say/explain.js";
 import {isOld, networkOf} from "../document/state.js";
 import {Ended, inText, NoAnswerCame} from "../program/ask.js";
@@ -31,8 +31,14 @@ export function areOthers(value) {
 
 /** Takes some firms and trades away, or lets them be there again; where that isn't said, the other of what is so. */
 export function suppose(store, edits, isAway = edits.some((edit) => !isIn(store.value.supposed.after, edit))) {
-    const {before, after} = store.value.supposed, others = after.filter((edit) => !isIn(edits, edit));
+    const {before, after} = store.value.supposed, others = after.filter((edit) => !alike(edits, edit));
     store.act("supposed", before, isAway ? [...others, ...edits] : others);
+}
+
+/** Admits so many units of a trade. */
+export function admit(store, name, units) {
+    const network = networkOf(store.value.document), edits = admitting(network, name, units);
+    if (units !== admittedIn(network, store.value.supposed.after, name)) suppose(store, edits.length > 0 ? edits : [["bar", name]], edits.length > 0);
 }
 
 export class Suppositions {

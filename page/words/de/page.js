@@ -58,6 +58,7 @@ export const PAGE = {
         undo: "Rückgängig", whatif_all: "Alle sind wieder da",
         whatif_hint: "Ein Klick auf eine Firma im Netz oder auf ihr Kästchen hier lässt sie gehen oder "
             + "wiederkommen. Ein Klick auf ein Geschäft sperrt es oder lässt es zu. Das Dokument bleibt, wie es ist.",
+        whatif_units: "Eine Zahl lässt so viele Einheiten eines Geschäfts zu.",
         whatif_on: "Von hier aus weiter", whatif_put: "Ins Dokument schreiben", wide: "Breit",
         wonder: "Gibt es Preise?", words: "Die Wörter des Befehls", wrote: "Was das Programm geschrieben hat",
         wrote_bytes: {
@@ -75,7 +76,7 @@ export const PAGE = {
         firm: "Firma", has: "Hat", worth: "Wert", utility: "Nutzen", rather: "Hätte lieber", gain: "Gewinn",
         name: "Name", exercise: "Aufgabe", reached: "Erreicht", tries: "Versuche", given: "Firmen und Geschäfte",
         trade: "Geschäft", from: "Von", to: "An", on: "Aktiv", signed: "Unterschrieben", price: "Preis",
-        units: "Einheiten", all_units: "Von",
+        units: "Einheiten", all_units: "Von", admitted: "Zugelassen",
         price_over: "Preis, in 1/{over}", bounds: "Schranken", before: "Vorher", after: "Nachher", change: "Änderung",
         contributes: "Beitrag", vcg: "VCG-Zahlung", step: "Schritt", happens: "Was geschieht",
     },

@@ -32,7 +32,6 @@ export const VIEWS = {
     },
     counted: {
         sign: "Die Geschäfte haben hier Einheiten, und ob Verträge in einem solchen Markt halten, beantwortet das Programm noch nicht.",
-        whatif: "Die Geschäfte haben hier Einheiten, und was wäre, wenn jemand einen solchen Markt verließe, beantwortet das Programm noch nicht.",
         claim: "Die Geschäfte haben hier Einheiten, und ob eine Behauptung über einen solchen Markt stimmt, beantwortet das Programm noch nicht.",
     },
     auction: {
@@ -89,8 +88,10 @@ export const VIEWS = {
         guess: "Dick: kommt zustande. Dünn: nicht. \u2713 zufrieden. \u2717 widerspricht.",
         units: "Je breiter, desto mehr Einheiten gehen, von so vielen, zum Preis für eine. \u2713 zufrieden. \u2717 widerspricht.",
         signed: "Dick: ist unterschrieben. Dünn: nicht.",
-        whatif: "Dick: bleibt. + und grün: kommt dazu oder mehr als vorher. \u2212 und rot: fällt weg oder weniger als "
-            + "vorher. Punktiert: nicht nutzbar. Unter einer Firma: ihr Nutzen vorher und nachher.",
+        whatif: "Dick: bleibt. + und grün: kommt dazu oder mehr als vorher. \u2212 und rot: fällt weg oder weniger als vorher.",
+        whatif_units: "Je breiter, desto mehr Einheiten gehen, von so vielen zugelassenen, zum Preis für eine. + und grün: mehr als vorher. "
+            + "\u2212 und rot: weniger.",
+        supposed: "{signs} Punktiert: nicht nutzbar. Unter einer Firma: ihr Nutzen vorher und nachher.",
         coloured: "{signs} In Farbe: {marks}.",
         one_firm: "Nur {firm} und die Geschäfte dieser Firma sind gezeichnet. {legend}",
     },
@@ -101,6 +102,7 @@ export const VIEWS = {
         contract: "der Vertrag dieses Schritts", before: "die Verträge der Schritte davor",
         chain: "die Verträge der Kette", left: "was aufgegeben würde", stays: "bleibt", comes: "kommt dazu",
         goes: "fällt weg", gone: "fällt weg, da nicht nutzbar", out: "nicht nutzbar",
+        more: "mehr als {was} vorher", fewer: "weniger als {was} vorher", as_before: "wie vorher", gone_units: "nicht nutzbar, vorher {was}",
     },
     mark: {
         cycle: "auf dem Kreis", blocks: "Verträge, die blockieren", rather: "was {firm} lieber hätte",
@@ -130,6 +132,10 @@ export const VIEWS = {
     whatif: {
         is_away: "{name} ist weg", is_barred: "{name} ist gesperrt", is_there: "{name} ist da",
         is_admitted: "{name}, von {seller} an {buyer}, ist zugelassen",
+        are_admitted: {one: "{name} hat nur {count} zugelassene Einheit", other: "{name} hat nur {count} zugelassene Einheiten"},
+        all_admitted: "{name} ist mit allen Einheiten zugelassen", units_admitted: "Zugelassene Einheiten von {name}, von {most}",
+        units: "Gehandelt werden: {trades}.", trade_units: "{name} ({units})",
+        fewer_units: "weniger Einheiten von {trades}", more_units: "mehr Einheiten von {trades}", as_many: "gleich viele von {trades}",
         all_there: "Wenn alle da sind, ist die Summe der Werte {surplus}.",
         while: "{missing}: Dabei ist die Summe der Werte {surplus}.",
         same: "{changes}: Die Summe der Werte ist {now}, wie vorher.",

@@ -51,7 +51,7 @@ export const PAGE = {
         whatif_all: "All are there again",
         whatif_hint: "A click on a firm in the network, or on its box here, lets it leave or join. A click on a "
             + "trade bars or admits it. The document stays as it is.",
-        whatif_on: "Go on from here", whatif_put: "Put it into the document", wide: "Wide",
+        whatif_units: "A number admits so many units of a trade.", whatif_on: "Go on from here", whatif_put: "Put it into the document", wide: "Wide",
         wonder: "Are there prices?", words: "The words of the command", wrote: "What the program wrote",
         wrote_bytes: "What the program wrote: {count} bytes", zoom_in: "Zoom in", zoom_out: "Zoom out",
     },
@@ -64,7 +64,7 @@ export const PAGE = {
         firm: "Firm", has: "Has", worth: "Worth", utility: "Utility", rather: "Would rather", gain: "Gain",
         name: "Name", exercise: "Exercise", reached: "Reached", tries: "Tries", given: "Firms and trades",
         trade: "Trade", from: "From", to: "To", on: "On", signed: "Signed", price: "Price",
-        units: "Units", all_units: "Of",
+        units: "Units", all_units: "Of", admitted: "Admitted",
         price_over: "Price, in 1/{over}", bounds: "Bounds", before: "Before", after: "After", change: "Change",
         contributes: "Contributes", vcg: "VCG payment", step: "Step", happens: "What happens",
     },

@@ -27,7 +27,6 @@ export const VIEWS = {
     },
     counted: {
         sign: "Trades have units here, and whether contracts in such a market last is nothing that the program answers yet.",
-        whatif: "Trades have units here, and what if somebody left such a market is nothing that the program answers yet.",
         claim: "Trades have units here, and whether a claim of such a market is so is nothing that the program answers yet.",
     },
     auction: {
@@ -80,8 +79,9 @@ export const VIEWS = {
         guess: "Thick: takes place. Thin: doesn't. \u2713 content. \u2717 objects.",
         units: "The wider, the more units go, of so many, at the price of one. \u2713 content. \u2717 objects.",
         signed: "Thick: is signed. Thin: isn't.",
-        whatif: "Thick: stays. + and green: comes, or more than before. \u2212 and red: goes, or fewer than before. "
-            + "Dotted: can't be used. Below a firm: [its|their] utility before and after.",
+        whatif: "Thick: stays. + and green: comes, or more than before. \u2212 and red: goes, or fewer than before.",
+        whatif_units: "The wider, the more units go, of so many admitted, at the price of one. + and green: more than before. \u2212 and red: fewer.",
+        supposed: "{signs} Dotted: can't be used. Below a firm: [its|their] utility before and after.",
         coloured: "{signs} In colour: {marks}.",
         one_firm: "Only {firm} and [its|their] trades are drawn. {legend}",
     },
@@ -92,6 +92,7 @@ export const VIEWS = {
         contract: "the contract of this step", before: "the contracts of the steps before it",
         chain: "the contracts of the chain", left: "what would be left", stays: "stays", comes: "comes", goes: "goes",
         gone: "goes, since it can't be used", out: "can't be used",
+        more: "more than {was} before", fewer: "fewer than {was} before", as_before: "as before", gone_units: "can't be used, {was} before",
     },
     mark: {
         cycle: "on the cycle", blocks: "contracts that block", rather: "what {firm} would rather have",
@@ -119,6 +120,10 @@ export const VIEWS = {
     whatif: {
         is_away: "{name} is away", is_barred: "{name} is barred", is_there: "{name} is there",
         is_admitted: "{name}, from {seller} to {buyer}, is admitted",
+        are_admitted: {one: "{name} has only {count} admitted unit", other: "{name} has only {count} admitted units"},
+        all_admitted: "{name} is admitted with all units", units_admitted: "Admitted units of {name}, of {most}",
+        units: "Traded: {trades}.", trade_units: "{name} ({units})",
+        fewer_units: "fewer units of {trades}", more_units: "more units of {trades}", as_many: "as many of {trades}",
         all_there: "With everybody there the worths sum to {surplus}.",
         while: "While {missing} the worths sum to {surplus}.", same: "{changes}: the worths sum to {now}, as before.",
         less: "{changes}: the worths sum to {now} in place of {then}, which is {less} less.",

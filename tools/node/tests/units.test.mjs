@@ -60,7 +60,7 @@ function opened(name) {
 test("where trades have units all views are there, and those that can't be yet say so", () => {
     const store = opened("mills-low-price.json"), {text} = store.value.document;
     assert.equal(store.value.view.panel, "guess");
-    for (const panel of ["sign", "whatif", "claim"]) {
+    for (const panel of ["sign", "claim"]) {
         store.act("went", panel);
         assert.deepEqual([store.value.view.panel, store.value.view.mode, shutBy(store.value)], [panel, "guess", `counted.${panel}`]);
         for (const name of ["en", "de"]) assert.match(LANGUAGES[name].table.counted[panel], /units|Einheiten/);
@@ -69,9 +69,15 @@ test("where trades have units all views are there, and those that can't be yet s
         store.act("went", panel);
         assert.deepEqual([store.value.view.panel, shutBy(store.value)], [panel, null]);
     }
+    store.act("went", "whatif");
+    assert.deepEqual([store.value.view.mode, store.value.view.from, shutBy(store.value)], ["whatif", "guess", null]);
     store.act("typed", text.replace('"version":4', '"version":3'));
-    store.act("went", "sign");
-    assert.deepEqual([store.value.view.mode, shutBy(store.value)], ["sign", null], "another version has them");
+    for (const panel of ["sign", "whatif"]) {
+        store.act("went", panel);
+        assert.deepEqual([store.value.view.mode, shutBy(store.value)], [panel, null], "another version has them");
+    }
+    store.act("typed", text);
+    assert.deepEqual([store.value.view.mode, store.value.view.from], ["whatif", "guess"], "nothing is signed where trades have units");
 });
 
 test("of trades with units firms, support and range are asked, and nothing that doesn't answer them", async () => {
