@@ -1,6 +1,12 @@
 -- How many numbers pass a test, and the twins of each trade.
-use Rattle.std.proofs.Common.{◌≡◌, ℕ, zero, suc, ◌+◌, ◌-◌, ◌<◌, ◌≤◌, Bool, true, false, ◌==◌, ◌&&◌, nat_lt, if◌then◌else◌, List, [], ◌∷◌, length, ◌⊎◌, inl, inr, refl, sym, ap, ◌∙◌, subst, arith}
+use Rattle.std.proofs.Common.{◌≡◌, ℕ, zero, suc, ◌+◌, ◌-◌, ◌<◌, ◌≤◌, Bool, true, false, ◌==◌, ◌&&◌, nat_lt, if◌then◌else◌, List, [], ◌∷◌, length, ◌⊎◌, inl, inr, refl, sym, ap, ◌∙◌, subst, arith, ℤ, pos, ◌+ℤ◌, ◌*ℤ◌}
 use Rattle.std.proofs.lemmas.Bool.{cases_eq, cases_lt, eq-eqb, le-ltb, lt-ltb, ne_eqb}
+use Rattle.std.proofs.lemmas.Int.{ints}
+use Rattle.std.proofs.Math.IntN.{*ℤ-zero}
+use Rattle.tn_base.specs.Sets.{has, sum_over}
+use Rattle.tn_base.proofs.SumLemmas.{times-plus}
+use Rattle.tn_links.specs.Totals.{total}
+use Rattle.tn_links.proofs.TotalLemmas.{total-plus, total-same, total-zero, total_at}
 use Rattle.tn_counts.specs.Counts.{trade_at}
 use Rattle.tn_counts.specs.declared.trade.UnitTrade.{UnitTrade}
 use Rattle.tn_unit_laws.specs.Units.{count_below, trade_of, unit_count}
@@ -47,6 +53,51 @@ count-most f g (suc n) most =
     by true y passes = subst (λ (b : Bool). 1 ≤ one b) (sym (passes refl)) (omega arith)
     by false y passes = omega arith
 
+-- the first test passes somewhere where the second does not, or nowhere
+pub more_or_none : (f g : ℕ → Bool) (n : ℕ) → ((k : ℕ) × (k < n) × (f k ≡ true) × (g k ≡ false))
+    ⊎ ((k : ℕ) → k < n → f k ≡ true → g k ≡ true)
+more_or_none f g zero = inr (λ k below. absurd (omega (arith, below)))
+more_or_none f g (suc n) = elim (more_or_none f g n) [
+  | inl found ↦ inl (found.0, let p = found.1 in omega (arith, p), found.2, found.3)
+  | inr none ↦ by none (f n) (g n) refl refl
+]
+  where
+    differ : true ≡ false → ⊥
+    differ e = absurd (cc)
+
+    by : ((k : ℕ) → k < n → f k ≡ true → g k ≡ true) → (x y : Bool) → f n ≡ x → g n ≡ y
+        → ((k : ℕ) × (k < suc n) × (f k ≡ true) × (g k ≡ false)) ⊎ ((k : ℕ) → k < suc n → f k ≡ true → g k ≡ true)
+    by none true false first second = inl (n, omega arith, first, second)
+    by none true true first second = inr (λ k below on. elim (cases_eq k n) [
+      | inl last ↦ ap g last ∙ second
+      | inr other ↦ none k (omega (arith, below, other)) on
+    ])
+    by none false y first second = inr (λ k below on. elim (cases_eq k n) [
+      | inl last ↦ absurd (differ (sym on ∙ ap f last ∙ first))
+      | inr other ↦ none k (omega (arith, below, other)) on
+    ])
+
+-- where one test passes another does, and somewhere the other alone
+pub count-strict : (f g : ℕ → Bool) (n : ℕ) → ((k : ℕ) → k < n → f k ≡ true → g k ≡ true) → (i : ℕ) → i < n → g i ≡ true
+    → f i ≡ false → count_below f n < count_below g n
+unfolding count_below
+count-strict f g zero most i below on off = absurd (omega (arith, below))
+count-strict f g (suc n) most i below on off = elim (cases_eq i n) [
+  | inl last ↦
+      let before = count-most f g n (λ k inside. most k (omega (arith, inside))) in
+      let fewer : one (f n) ≡ 0 = ap one (ap f (sym last) ∙ off) in
+      let more : one (g n) ≡ 1 = ap one (ap g (sym last) ∙ on) in
+      omega (arith, before, fewer, more)
+  | inr other ↦
+      let before = count-strict f g n (λ k inside. most k (omega (arith, inside))) i (omega (arith, below, other)) on off in
+      let here = by (f n) (g n) (most n (omega arith)) in
+      omega (arith, before, here)
+]
+  where
+    by : (x y : Bool) → (x ≡ true → y ≡ true) → one x ≤ one y
+    by true y passes = subst (λ (b : Bool). 1 ≤ one b) (sym (passes refl)) (omega arith)
+    by false y passes = omega arith
+
 -- so many numbers, and then the others
 pub count-split : (f : ℕ → Bool) (m n : ℕ) → count_below f (m + n) ≡ count_below f m + count_below (λ k. f (m + k)) n
 unfolding count_below
@@ -56,6 +107,52 @@ count-split f m (suc n) =
     let next : m + suc n ≡ suc (m + n) = omega arith in
     let same : count_below f (m + suc n) ≡ count_below f (m + n) + one (f (m + n)) = ap (count_below f) next in
     omega (arith, same, before)
+
+-- where two tests share the numbers that a third passes
+pub count-plus : (f g h : ℕ → Bool) (n : ℕ) → ((k : ℕ) → k < n → one (f k) + one (g k) ≡ one (h k))
+    → count_below f n + count_below g n ≡ count_below h n
+unfolding count_below
+count-plus f g h zero each = refl
+count-plus f g h (suc n) each =
+    let before = count-plus f g h n (λ k below. each k (omega (arith, below))) in
+    let here = each n (omega arith) in
+    omega (arith, before, here)
+
+-- a sum over members of what depends on their kind alone is one over kinds, times how many there are of each
+pub sum_by_kinds : (kind : ℕ → ℕ) (kinds : ℕ) (each : ℕ → ℤ) (x n : ℕ)
+    → ((k : ℕ) → k < n → has x k ≡ true → kind k < kinds)
+    → sum_over (λ k. each (kind k)) n x
+    ≡ total (λ s. each s *ℤ pos (count_below (λ k. has x k && s == kind k) n)) kinds
+unfolding sum_over count_below
+sum_by_kinds kind kinds each x zero within = sym (total-zero (λ s. each s *ℤ pos 0) kinds (λ s below. *ℤ-zero (each s)))
+sum_by_kinds kind kinds each x (suc n) within =
+    ap (λ (z : ℤ). z +ℤ (if has x n then each (kind n) else pos 0))
+    (sum_by_kinds kind kinds each x n (λ k below. within k (omega (arith, below))))
+    ∙ sym (total-same (λ s. each s *ℤ pos (many s + one (has x n && s == kind n)))
+    (λ s. each s *ℤ pos (many s) +ℤ each s *ℤ pos (one (has x n && s == kind n))) kinds
+    (λ s below. spread s (many s) (one (has x n && s == kind n)))
+    ∙ total-plus (λ s. each s *ℤ pos (many s)) (λ s. each s *ℤ pos (one (has x n && s == kind n))) kinds
+    ∙ ap (λ (z : ℤ). total (λ s. each s *ℤ pos (many s)) kinds +ℤ z) (by (has x n) (within n (omega arith))))
+  where
+    many : ℕ → ℕ
+    many s = count_below (λ k. has x k && s == kind k) n
+
+    spread : (s a b : ℕ) → each s *ℤ pos (a + b) ≡ each s *ℤ pos a +ℤ each s *ℤ pos b
+    spread s a b = ap (λ (z : ℤ). each s *ℤ z) (let sum : pos (a + b) ≡ pos a +ℤ pos b = omega (arith, ints) in sum)
+        ∙ times-plus (each s) (pos a) (pos b)
+
+    if_pos : (b : Bool) → pos (one b) ≡ (if b then pos 1 else pos 0)
+    if_pos true = refl
+    if_pos false = refl
+
+    by : (b : Bool) → (b ≡ true → kind n < kinds)
+        → total (λ s. each s *ℤ pos (one (b && s == kind n))) kinds ≡ (if b then each (kind n) else pos 0)
+    by true inside =
+        total-same (λ s. each s *ℤ pos (one (s == kind n))) (λ s. each s *ℤ (if s == kind n then pos 1 else pos 0)) kinds
+        (λ s below. ap (λ (z : ℤ). each s *ℤ z) (if_pos (s == kind n)))
+        ∙ total_at each (pos 1) (kind n) kinds (inside refl)
+        ∙ (let single : each (kind n) *ℤ pos 1 ≡ each (kind n) = omega (arith, ints) in single)
+    by false inside = total-zero (λ s. each s *ℤ pos 0) kinds (λ s below. *ℤ-zero (each s))
 
 -- ---- the first numbers of each kind
 

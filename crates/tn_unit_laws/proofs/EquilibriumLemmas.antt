@@ -13,10 +13,11 @@ use Rattle.tn_counts.specs.Counts.{AreCounts, CountFirm, IsBestCount, IsEfficien
 use Rattle.tn_counts.specs.declared.trade.UnitTrade.{UnitTrade}
 use Rattle.tn_unit_laws.specs.Laws.{CountsAreOfSets, EfficientByCounts, EquilibriaByCountsAreEquilibria, FitByCounts}
 use Rattle.tn_unit_laws.specs.Units.{HasCounts, counts_of, first_units, own_units, price_of_unit, trade_of, twins_before, unit_count, unit_firm, unit_firms, unit_firms_from, unit_trades, units_on}
-use Rattle.tn_unit_laws.proofs.CountLemmas.{count-first, count-most, count-same, count-twins}
+use Rattle.tn_unit_laws.proofs.CountLemmas.{count-first, count-most, count-same, count-twins, trade_of-within}
 use Rattle.tn_unit_laws.proofs.UnitLemmas.{comes_from, unit_firm_at}
-use Rattle.tn_unit_laws.proofs.BundleLemmas.{counts_of_part, counts_within}
-use Rattle.tn_unit_laws.proofs.PaymentLemmas.{bundle_below, gets_at, same_utility, utility_is}
+use Rattle.tn_unit_laws.proofs.BundleLemmas.{counts_of_part}
+use Rattle.tn_unit_laws.proofs.PaymentLemmas.{gets_at, own_below}
+use Rattle.tn_unit_laws.proofs.KindLemmas.{AreKinds, IsOfKinds, best_by_kinds}
 
 -- ---- the counts of sets
 
@@ -49,51 +50,34 @@ counts_of_sets = record { first = first_have; within = units_within }
 
 -- ---- equilibria
 
-module _ (firms : List CountFirm) (trades : List UnitTrade) (fit : FitByCounts firms trades) (f : ℕ) (firm : CountFirm)
-    (is : slice_get firms f ≡ Some firm) (scale : ℤ) (prices : ℕ → ℤ) where
-  -- firm f's bundle of a set
-  own_part : ℕ → ℕ
-  own_part on = part (unit_trades trades) f (own_units trades f) on
+-- each trade is the kind of its twins
+twins_are_kinds : (trades : List UnitTrade) → AreKinds trades trades (trade_of trades)
+twins_are_kinds trades = record {
+  seller = λ u below inside. refl;
+  buyer = λ u below inside. refl;
+  size = λ t below. count-twins trades t;
+}
 
-  -- the utility of a bundle, and by counts
-  utility : ℕ → Option ℤ
-  utility x = utility_at (unit_trades trades) scale (price_of_unit trades prices) f (unit_firm trades f firm) x
-
-  by_counts : (ℕ → ℕ) → Option ℤ
-  by_counts counts = count_utility trades scale prices f firm counts
-
-  part_utility : (on : ℕ) (counts : ℕ → ℕ) → HasCounts trades on counts → utility (own_part on) ≡ by_counts counts
-  unfolding own_part utility by_counts
-  part_utility on counts have =
-      utility_is firms trades fit f firm is prices (own_part on) scale
-      (set_of_within (λ k. has on (own (unit_trades trades) f k)) (own_units trades f))
-      ∙ same_utility firms trades fit f firm is scale prices (counts_of trades f (own_part on)) counts
-      (λ t below mine. counts_of_part firms trades fit f firm is on t mine ∙ have t below)
-
-  pub best_to : (on : ℕ) (counts : ℕ → ℕ) (value : ℤ) → HasCounts trades on counts
-      → IsBestCount trades (count_utility trades scale prices f firm) counts value
-      → IsBest (utility_at (unit_trades trades) scale (price_of_unit trades prices) f (unit_firm trades f firm))
-      (part (unit_trades trades) f (own_units trades f) on) value
-  unfolding own_part utility by_counts
-  best_to on counts value have best = record {
-    is = part_utility on counts have ∙ best.is;
-    most = λ y other at. best.most (counts_of trades f y) other (counts_within firms trades fit f firm is y)
-        (sym (utility_is firms trades fit f firm is prices y scale
-        (bundle_below firms trades fit f firm is scale (price_of_unit trades prices) y other at)) ∙ at);
-  }
-
-  pub best_from : (on : ℕ) (counts : ℕ → ℕ) (value : ℤ) → HasCounts trades on counts
-      → IsBest (utility_at (unit_trades trades) scale (price_of_unit trades prices) f (unit_firm trades f firm))
-      (part (unit_trades trades) f (own_units trades f) on) value
-      → IsBestCount trades (count_utility trades scale prices f firm) counts value
-  unfolding own_part utility by_counts
-  best_from on counts value have best = record {
-    within = λ t below. let most = units_within trades on t below in let same = have t below in
-        omega (arith, most, same);
-    is = sym (part_utility on counts have) ∙ best.is;
-    most = λ others other within at. best.most (own_part (first_units trades others)) other
-        (part_utility (first_units trades others) others (first_have trades others within) ∙ at);
-  }
+-- so what is best by counts is best
+best_by_counts : (firms : List CountFirm) (trades : List UnitTrade) (fit : FitByCounts firms trades) (f : ℕ)
+    (firm : CountFirm) (is : slice_get firms f ≡ Some firm) (scale : ℤ) (prices : ℕ → ℤ) (on : ℕ) (counts : ℕ → ℕ)
+    (value : ℤ) → HasCounts trades on counts
+    → IsBestCount trades (count_utility trades scale prices f firm) counts value
+    ↔ IsBest (utility_at (unit_trades trades) scale (price_of_unit trades prices) f (unit_firm trades f firm))
+    (part (unit_trades trades) f (own_units trades f) on) value
+best_by_counts firms trades fit f firm is scale prices on counts value have =
+    let kinds = best_by_kinds firms trades fit f firm is firms trades fit firm is (trade_of trades) (twins_are_kinds trades)
+    scale prices (price_of_unit trades prices) (λ u below inside. refl) (λ x of. refl) on counts value have
+    (all_of (part (unit_trades trades) f (own_units trades f) on)) in (
+      (λ best.
+          let found = kinds.0 best in
+          record { is = found.is; most = λ y other at. found.most y other (all_of y) at }),
+      (λ best. kinds.1 (record { is = best.is; most = λ y other of at. best.most y other at })),
+    )
+  where
+    all_of : (x : ℕ) → IsOfKinds trades trades (trade_of trades) f x
+    all_of x k below there =
+        trade_of-within trades (own (unit_trades trades) f k) (own_below firms trades fit f firm is k below)
 
 any_set : (firms : List CountFirm) (trades : List UnitTrade) (scale : ℤ) (counts : ℕ → ℕ) (prices : ℕ → ℤ) (on : ℕ)
     → FitByCounts firms trades → HasCounts trades on counts
@@ -106,11 +90,11 @@ any_set firms trades scale counts prices on fit have = (
         best.0,
         subst (λ (one : Firm). IsBest (utility_at (unit_trades trades) scale (price_of_unit trades prices) f one)
             (part (unit_trades trades) f one.count on) best.0) from.same
-            (best_to firms trades fit f from.firm from.is scale prices on counts best.0 have best.1),
+            ((best_by_counts firms trades fit f from.firm from.is scale prices on counts best.0 have).0 best.1),
       )),
   (λ equal f firm at.
       let best = equal f (unit_firm trades f firm) (unit_firm_at trades 0 firms f f firm (omega arith) at) in
-      (best.0, best_from firms trades fit f firm at scale prices on counts best.0 have best.1)),
+      (best.0, (best_by_counts firms trades fit f firm at scale prices on counts best.0 have).1 best.1)),
 )
 
 pub equilibria_are_equilibria : EquilibriaByCountsAreEquilibria

@@ -70,7 +70,7 @@ exchange_alike count buys one other same law =
 -- ---- net counts as sums
 
 -- one unit bought, or one sold
-abbrev sign : Bool → ℤ
+abbrev pub sign : Bool → ℤ
 sign bought = if bought then pos 1 else neg_ℤ (pos 1)
 
 net_below : (buys x n : ℕ) → pos (size_below n (meet x buys)) -ℤ pos (size_below n (minus x buys))
@@ -94,7 +94,7 @@ net_below buys x (suc n) =
     by true false = refl
     by false c = refl
 
-net_sum : (n buys x : ℕ) → x < 2 ^ n → net buys x ≡ sum_over (λ k. sign (has buys k)) n x
+pub net_sum : (n buys x : ℕ) → x < 2 ^ n → net buys x ≡ sum_over (λ k. sign (has buys k)) n x
 net_sum n buys x below = net_at n buys x below ∙ net_below buys x n
 
 -- a sum over what is in both sets

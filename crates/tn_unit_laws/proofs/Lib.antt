@@ -3,6 +3,7 @@ pub mod CountLemmas
 pub mod UnitLemmas
 pub mod BundleLemmas
 pub mod PaymentLemmas
+pub mod KindLemmas
 pub mod EquilibriumLemmas
 pub mod MarketLemmas
 pub mod StableLemmas
@@ -11,3 +12,9 @@ pub mod AvoidLemmas
 pub mod BoundLemmas
 pub mod OnePriceLemmas
 pub mod LaminarLemmas
+pub mod ExchangeLemmas
+pub mod SplitLemmas
+pub mod UnitContractLemmas
+pub mod OutcomeLemmas
+pub mod BlockLemmas
+pub mod CompletionLemmas

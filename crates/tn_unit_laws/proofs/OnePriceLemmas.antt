@@ -110,12 +110,12 @@ module _ (firms : List CountFirm) (trades : List UnitTrade) (fit : FitByCounts f
       by false true buys there high = absurd (omega (arith, high))
 
   -- two positions of twins, both in the bundle or both not
-  record AreAlike (x p q : ℕ) : Type 0 where
-    first : p < own_units trades f
-    second : q < own_units trades f
-    twins : trade_of trades (own (unit_trades trades) f p) ≡ trade_of trades (own (unit_trades trades) f q)
-    members : has x p ≡ has x q
-    level : trade_level (buys_of (sides_of (unit_trades trades) f)) x p
+  pub record AreAlike (x p q : ℕ) : Type 0 where
+    pub first : p < own_units trades f
+    pub second : q < own_units trades f
+    pub twins : trade_of trades (own (unit_trades trades) f p) ≡ trade_of trades (own (unit_trades trades) f q)
+    pub members : has x p ≡ has x q
+    pub level : trade_level (buys_of (sides_of (unit_trades trades) f)) x p
         ≡ trade_level (buys_of (sides_of (unit_trades trades) f)) x q
 
   -- either may be toggled
@@ -184,10 +184,10 @@ module _ (firms : List CountFirm) (trades : List UnitTrade) (fit : FitByCounts f
   -- ---- other prices, by which no unit is better than that of some twin was before
 
   -- a twin whose price fits
-  record HasPartner (x p : ℕ) (fits : ℤ → Type 0) (prices : ℕ → ℤ) : Type 0 where
-    at : ℕ
-    alike : AreAlike x p at
-    price : fits (prices (own (unit_trades trades) f at))
+  pub record HasPartner (x p : ℕ) (fits : ℤ → Type 0) (prices : ℕ → ℤ) : Type 0 where
+    pub at : ℕ
+    pub alike : AreAlike x p at
+    pub price : fits (prices (own (unit_trades trades) f at))
 
   module _ (scale : ℤ) (on : ℕ) (prices others : ℕ → ℤ) (from_zero : pos 0 ≤ℤ scale)
       (raise : (p : ℕ) → p < own_units trades f
@@ -296,7 +296,7 @@ module _ (firms : List CountFirm) (trades : List UnitTrade) (fit : FitByCounts f
         both_moved b a ptt pt px p q ott ot ox o r v no_more before before_that after after_that raised lowered value =
             omega (arith, ints, no_more, before, before_that, after, after_that, raised, lowered, value)
 
-    best_again : HasBest (unit_trades trades) scale on others f (unit_firm trades f firm)
+    pub best_again : HasBest (unit_trades trades) scale on others f (unit_firm trades f firm)
     best_again = (
       scale *ℤ mine.0 +ℤ paid others x,
       (local_is_global (unit_firm trades f firm) own_bundles meets scale (prices_at (unit_trades trades) others f)
@@ -332,7 +332,7 @@ module _ (firms : List CountFirm) (trades : List UnitTrade) (fit : FitByCounts f
       differ : true ≡ false → ⊥
       differ e = absurd (cc)
 
-  itself : (x k : ℕ) (fits : ℤ → Type 0) (prices : ℕ → ℤ) → k < own_units trades f
+  pub itself : (x k : ℕ) (fits : ℤ → Type 0) (prices : ℕ → ℤ) → k < own_units trades f
       → fits (prices (own (unit_trades trades) f k)) → HasPartner x k fits prices
   itself x k fits prices below price = record {
     at = k;
@@ -340,17 +340,26 @@ module _ (firms : List CountFirm) (trades : List UnitTrade) (fit : FitByCounts f
     price = price;
   }
 
-  -- a twin at a price is a partner, since it goes exactly where the unit trade goes, or costs as much
-  twin_partner : (scale : ℤ) (on k v : ℕ) (fits : ℤ → Type 0) (prices : ℕ → ℤ)
-      → IsEquilibrium (unit_firms trades firms) (unit_trades trades) scale on prices → k < own_units trades f
-      → v < unit_count trades → trade_of trades v ≡ trade_of trades (own (unit_trades trades) f k) → fits (prices v)
+  -- a twin at a price that goes exactly where the unit trade goes is a partner
+  pub alike_partner : (on k v : ℕ) (fits : ℤ → Type 0) (prices : ℕ → ℤ) → k < own_units trades f → v < unit_count trades
+      → trade_of trades v ≡ trade_of trades (own (unit_trades trades) f k)
+      → has on (own (unit_trades trades) f k) ≡ has on v → fits (prices v)
       → HasPartner (part (unit_trades trades) f (own_units trades f) on) k fits prices
-  twin_partner scale on k v fits prices equal below inside twins price =
-      by (has on u) (has on v) refl refl
+  alike_partner on k v fits prices below inside twins goes price =
+      let members = member k below ∙ goes ∙ ap (has on) (sym there) ∙ sym (member (place_of trades f v) there_below) in
+      record {
+        at = place_of trades f v;
+        alike = record {
+          first = below;
+          second = there_below;
+          twins = same_trade;
+          members = members;
+          level = alike_level (part (unit_trades trades) f (own_units trades f) on) k (place_of trades f v)
+              (buys_alike k (place_of trades f v) below there_below same_trade) members;
+        };
+        price = subst (λ (w : ℕ). fits (prices w)) (sym there) price;
+      }
     where
-      u : ℕ
-      u = own (unit_trades trades) f k
-
       theirs : is_own trades f (trade_of trades v) ≡ true
       theirs = ap (is_own trades f) twins ∙ own_at k below
 
@@ -369,22 +378,19 @@ module _ (firms : List CountFirm) (trades : List UnitTrade) (fit : FitByCounts f
           ≡ trade_of trades (own (unit_trades trades) f (place_of trades f v))
       same_trade = sym twins ∙ ap (trade_of trades) (sym there)
 
+  -- in an equilibrium a twin at a price is one, since it goes exactly where the unit trade goes, or costs as much
+  twin_partner : (scale : ℤ) (on k v : ℕ) (fits : ℤ → Type 0) (prices : ℕ → ℤ)
+      → IsEquilibrium (unit_firms trades firms) (unit_trades trades) scale on prices → k < own_units trades f
+      → v < unit_count trades → trade_of trades v ≡ trade_of trades (own (unit_trades trades) f k) → fits (prices v)
+      → HasPartner (part (unit_trades trades) f (own_units trades f) on) k fits prices
+  twin_partner scale on k v fits prices equal below inside twins price =
+      by (has on u) (has on v) refl refl
+    where
+      u : ℕ
+      u = own (unit_trades trades) f k
+
       other : has on u ≡ has on v → HasPartner (part (unit_trades trades) f (own_units trades f) on) k fits prices
-      other same =
-          let members = member k below ∙ same ∙ ap (has on) (sym there)
-          ∙ sym (member (place_of trades f v) there_below) in
-          record {
-            at = place_of trades f v;
-            alike = record {
-              first = below;
-              second = there_below;
-              twins = same_trade;
-              members = members;
-              level = alike_level (part (unit_trades trades) f (own_units trades f) on) k (place_of trades f v)
-                  (buys_alike k (place_of trades f v) below there_below same_trade) members;
-            };
-            price = subst (λ (w : ℕ). fits (prices w)) (sym there) price;
-          }
+      other same = alike_partner on k v fits prices below inside twins same price
 
       as_much : prices u ≡ prices v → HasPartner (part (unit_trades trades) f (own_units trades f) on) k fits prices
       as_much same = itself (part (unit_trades trades) f (own_units trades f) on) k fits prices below

@@ -1,25 +1,24 @@
--- With one price for the twins of a trade a bundle brings what its counts bring, so counts decide utilities.
-use Rattle.std.proofs.Common.{◌≡◌, ◌≢◌, ℕ, zero, suc, ◌+◌, ◌^◌, ◌<◌, ◌≤◌, Bool, true, false, ◌==◌, ◌&&◌, ◌||◌, nat_lt, if◌then◌else◌, List, length, slice_get, Option, Some, None, option_map, ◌⊎◌, inl, inr, refl, sym, ap, ap₂, ◌∙◌, arith, ℤ, pos, neg_ℤ, ◌+ℤ◌, ◌-ℤ◌, ◌*ℤ◌}
-use Rattle.std.proofs.lemmas.Bool.{and_parts, cases_Bool, eq-eqb, eqb-true, lt-ltb, ltb-true, ne_eqb, or_parts}
+-- What a firm gets at each position, and sums over a bundle of what depends on the trade alone.
+use Rattle.std.proofs.Common.{◌≡◌, ◌≢◌, ℕ, ◌^◌, ◌<◌, Bool, true, false, ◌==◌, ◌&&◌, ◌||◌, nat_lt, if◌then◌else◌, List, length, slice_get, Option, Some, None, option_map, ◌⊎◌, inl, inr, refl, sym, ap, ap₂, ◌∙◌, arith, ℤ, pos, neg_ℤ, ◌+ℤ◌, ◌-ℤ◌, ◌*ℤ◌}
+use Rattle.std.proofs.lemmas.Bool.{and_parts, cases_Bool, eq-eqb, eqb-true, ltb-true, ne_eqb, or_parts}
 use Rattle.std.proofs.lemmas.Int.{ints}
 use Rattle.std.proofs.lemmas.Option.{none-some, same_Some}
-use Rattle.std.proofs.Math.IntN.{*ℤ-zero, zero-*ℤ}
+use Rattle.std.proofs.Math.IntN.{zero-*ℤ}
 use Rattle.tn_base.specs.Firm.{Firm, payments as bundle_payments}
 use Rattle.tn_base.specs.Sets.{has, sum_over}
 use Rattle.tn_base.specs.Table.{buys_of}
-use Rattle.tn_base.proofs.SumLemmas.{sum_over-same_terms, times-plus}
 use Rattle.tn_links.specs.Totals.{total}
-use Rattle.tn_links.proofs.TotalLemmas.{total-plus, total-same, total-zero, total_at}
+use Rattle.tn_links.proofs.TotalLemmas.{total-same}
 use Rattle.tn_model.specs.declared.ends.Ends.{Ends}
 use Rattle.tn_model.specs.InOrder.{sides_of}
 use Rattle.tn_model.specs.Network.{own, stands_at}
 use Rattle.tn_model.proofs.NetworkLemmas.{one_trade}
 use Rattle.tn_market.specs.Equilibrium.{prices_at, utility_at}
-use Rattle.tn_counts.specs.Counts.{CountFirm, count_utility, paid_to, payments, trade_at}
+use Rattle.tn_counts.specs.Counts.{CountFirm, count_utility, paid_to, trade_at}
 use Rattle.tn_counts.specs.declared.trade.UnitTrade.{UnitTrade}
 use Rattle.tn_unit_laws.specs.Laws.{FitByCounts}
-use Rattle.tn_unit_laws.specs.Units.{count_below, counts_among, counts_of, is_own, own_units, price_of_unit, trade_of, unit_count, unit_firm, unit_firms, unit_trades}
-use Rattle.tn_unit_laws.proofs.CountLemmas.{one, trade_of-within}
+use Rattle.tn_unit_laws.specs.Units.{counts_of, is_own, own_units, trade_of, unit_count, unit_firm, unit_firms, unit_trades}
+use Rattle.tn_unit_laws.proofs.CountLemmas.{sum_by_kinds, trade_of-within}
 use Rattle.tn_unit_laws.proofs.UnitLemmas.{length-units, unit_at, unit_firm_at}
 use Rattle.tn_unit_laws.proofs.BundleLemmas.{fits_network, place_of, unit}
 
@@ -133,80 +132,14 @@ module _ (firms : List CountFirm) (trades : List UnitTrade) (fit : FitByCounts f
       price = prices (own (unit_trades trades) f k)
 
   -- a sum over a bundle of what depends on the trade alone is one over trades, times their counts
-  module _ (each : ℕ → ℤ) (x : ℕ) where
-    by_counts : ℕ → ℤ
-    by_counts n = total (λ t. each t *ℤ pos (counts_among trades f n x t)) (length trades)
+  pub sum_by_counts : (each : ℕ → ℤ) (x : ℕ)
+      → sum_over (λ k. each (trade_of trades (own (unit_trades trades) f k))) (own_units trades f) x
+      ≡ total (λ t. each t *ℤ pos (counts_of trades f x t)) (length trades)
+  sum_by_counts each x =
+      sum_by_kinds (λ k. trade_of trades (own (unit_trades trades) f k)) (length trades) each x (own_units trades f)
+      (λ k below there. trade_of-within trades (own (unit_trades trades) f k) (own_below k below))
 
-    next_position : (n : ℕ) → n < own_units trades f → by_counts (suc n)
-        ≡ by_counts n +ℤ (if has x n then each (trade_of trades (own (unit_trades trades) f n)) else pos 0)
-    unfolding count_below by_counts
-    next_position n below =
-        total-same (λ t. each t *ℤ pos (counts_among trades f n x t + one (has x n && t == last)))
-        (λ t. each t *ℤ pos (counts_among trades f n x t) +ℤ each t *ℤ pos (one (has x n && t == last)))
-        (length trades) (λ t inside. spread t (counts_among trades f n x t) (one (has x n && t == last)))
-        ∙ total-plus (λ t. each t *ℤ pos (counts_among trades f n x t))
-        (λ t. each t *ℤ pos (one (has x n && t == last))) (length trades)
-        ∙ ap (λ (z : ℤ). by_counts n +ℤ z) (by (has x n))
-      where
-        last : ℕ
-        last = trade_of trades (own (unit_trades trades) f n)
-
-        spread : (t a b : ℕ) → each t *ℤ pos (a + b) ≡ each t *ℤ pos a +ℤ each t *ℤ pos b
-        spread t a b = ap (λ (z : ℤ). each t *ℤ z) (let sum : pos (a + b) ≡ pos a +ℤ pos b = omega (arith, ints) in sum)
-            ∙ times-plus (each t) (pos a) (pos b)
-
-        if_pos : (b : Bool) → pos (one b) ≡ (if b then pos 1 else pos 0)
-        if_pos true = refl
-        if_pos false = refl
-
-        by : (b : Bool) → total (λ t. each t *ℤ pos (one (b && t == last))) (length trades)
-            ≡ (if b then each last else pos 0)
-        by true =
-            total-same (λ t. each t *ℤ pos (one (t == last))) (λ t. each t *ℤ (if t == last then pos 1 else pos 0))
-            (length trades) (λ t inside. ap (λ (z : ℤ). each t *ℤ z) (if_pos (t == last)))
-            ∙ total_at each (pos 1) last (length trades)
-            (trade_of-within trades (own (unit_trades trades) f n) (own_below n below))
-            ∙ (let single : each last *ℤ pos 1 ≡ each last = omega (arith, ints) in single)
-        by false = total-zero (λ t. each t *ℤ pos 0) (length trades) (λ t inside. *ℤ-zero (each t))
-
-    sum_below : (n : ℕ) → n ≤ own_units trades f
-        → sum_over (λ k. each (trade_of trades (own (unit_trades trades) f k))) n x ≡ by_counts n
-    unfolding sum_over count_below by_counts
-    sum_below zero most = sym (total-zero (λ t. each t *ℤ pos 0) (length trades) (λ t inside. *ℤ-zero (each t)))
-    sum_below (suc n) most =
-        let before = sum_below n (omega (arith, most)) in
-        let next = next_position n (omega (arith, most)) in
-        ap (λ (z : ℤ). z +ℤ (if has x n then each (trade_of trades (own (unit_trades trades) f n)) else pos 0)) before
-        ∙ sym next
-
-    pub sum_by_counts : sum_over (λ k. each (trade_of trades (own (unit_trades trades) f k))) (own_units trades f) x
-        ≡ total (λ t. each t *ℤ pos (counts_of trades f x t)) (length trades)
-    unfolding by_counts
-    sum_by_counts = sum_below (own_units trades f) (omega arith)
-
-  -- at one price for twins a bundle brings what its counts bring
-  module _ (prices : ℕ → ℤ) (x : ℕ) where
-    brings : sum_over (gets_at trades f (price_of_unit trades prices)) (own_units trades f) x
-        ≡ payments trades prices f (counts_of trades f x)
-    brings =
-        sum_over-same_terms (gets_at trades f (price_of_unit trades prices))
-        (λ k. paid_to f (prices (trade_of trades (own (unit_trades trades) f k)))
-        (trade_at trades (trade_of trades (own (unit_trades trades) f k)))) x (own_units trades f)
-        (λ k below member. gets_is (price_of_unit trades prices) k below)
-        ∙ sum_by_counts (λ t. paid_to f (prices t) (trade_at trades t)) x
-
-    -- so its utility is that of its counts
-    pub utility_is : (scale : ℤ) → x < 2 ^ own_units trades f
-        → utility_at (unit_trades trades) scale (price_of_unit trades prices) f (unit_firm trades f firm) x
-        ≡ count_utility trades scale prices f firm (counts_of trades f x)
-    utility_is scale below =
-        ap (λ (b : Bool). option_map (λ a. scale *ℤ a
-        +ℤ sum_over (gets_at trades f (price_of_unit trades prices)) (own_units trades f) x)
-        (if b then firm.worth (counts_of trades f x) else None)) (lt-ltb x (2 ^ own_units trades f) below)
-        ∙ ap (λ (z : ℤ). option_map (λ a. scale *ℤ a +ℤ z) (firm.worth (counts_of trades f x)))
-        brings
-
-  -- only bundles of own unit trades have one
+  -- only bundles of own unit trades have a utility
   pub bundle_below : (scale : ℤ) (prices : ℕ → ℤ) (x : ℕ) (value : ℤ)
       → utility_at (unit_trades trades) scale prices f (unit_firm trades f firm) x ≡ Some value
       → x < 2 ^ own_units trades f

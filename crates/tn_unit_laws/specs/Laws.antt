@@ -1,22 +1,28 @@
 -- Laws of the unit network, each as one statement over all firms and trades.
-use Rattle.std.specs.Prelude.{◌≡◌, ◌≢◌, ℕ, suc, ◌<◌, true, false, ℤ, pos, neg_ℤ, ◌-ℤ◌, ◌*ℤ◌, ◌≤ℤ◌, ◌<ℤ◌, ◌↔◌, List, [], length, slice_get, Some}
+use Rattle.std.specs.Prelude.{◌≡◌, ◌≢◌, ℕ, suc, ◌<◌, true, false, ℤ, pos, neg_ℤ, ◌-ℤ◌, ◌*ℤ◌, ◌≤ℤ◌, ◌<ℤ◌, ◌↔◌, ◌==◌, List, [], ◌++◌, length, slice_get, Some}
+use Rattle.tn_base.specs.Exchange.{MeetsExchange}
 use Rattle.tn_base.specs.Sets.{has}
 use Rattle.tn_links.specs.declared.link.Link.{Link}
 use Rattle.tn_links.specs.Flows.{IsKeptFlow}
 use Rattle.tn_links.specs.Totals.{total}
-use Rattle.tn_model.specs.Choices.{IsStable, contracts_of}
+use Rattle.tn_model.specs.Choices.{Blocks, IsFeasible, IsIndividuallyRational, IsStable, contracts_of}
 use Rattle.tn_model.specs.Network.{IsNetwork}
 use Rattle.tn_market.specs.Equilibrium.{IsEfficient, IsEquilibrium, surplus_of}
+use Rattle.tn_market.specs.Signed.{Completes}
 use Rattle.tn_network_laws.specs.Laws.{MeetExchange}
 use Rattle.tn_counts.specs.Counts.{AreCounts, CountFirm, HaveFirms, IsEfficientByCounts, IsEquilibriumByCounts, count_surplus}
 use Rattle.tn_counts.specs.Laminar.{firms_of}
 use Rattle.tn_counts.specs.Laws.{IsGain}
 use Rattle.tn_counts.specs.Markets.{IsUnitMarket}
+use Rattle.tn_counts.specs.Outcomes.{AreUnitContracts, BlocksByCounts, CompletesByCounts, IsRationalByCounts, IsStableByCounts, contract_at}
 use Rattle.tn_counts.specs.Ranges.{apart_counts}
 use Rattle.tn_counts.specs.Tree.{AreLinksOf, sold_at}
+use Rattle.tn_counts.specs.declared.contract.UnitContract.{UnitContract}
 use Rattle.tn_counts.specs.declared.market.UnitMarket.{UnitMarket}
 use Rattle.tn_counts.specs.declared.trade.UnitTrade.{UnitTrade}
-use Rattle.tn_unit_laws.specs.Units.{DependsOnOwn, HaveTwoEnds, HasCounts, first_units, price_of_unit, trade_of, unit_count, unit_firms, unit_trades, units_on}
+use Rattle.tn_unit_laws.specs.Exchange.{ExchangesByCounts}
+use Rattle.tn_unit_laws.specs.Outcomes.{split_of, split_price, unit_contracts, unit_offers}
+use Rattle.tn_unit_laws.specs.Units.{count_below, DependsOnOwn, HaveTwoEnds, HasCounts, first_units, price_of_unit, trade_of, unit_count, twins_before, unit_firm, unit_firms, unit_trades, units_on}
 
 -- firms and trades that fit together by counts make a network of unit firms and unit trades
 abbrev pub UnitsMakeNetworks : Type 0
@@ -189,3 +195,77 @@ pub record OnePriceIsEnough : Type 0 where
 abbrev pub MarketsMeetExchange : Type 0
 MarketsMeetExchange = (market : UnitMarket) → IsUnitMarket market
     → MeetExchange (unit_firms market.trades.items (firms_of market))
+
+-- a unit firm meets exchange exactly where its firm exchanges by counts
+abbrev pub ExchangeByCounts : Type 0
+ExchangeByCounts = (firms : List CountFirm) (trades : List UnitTrade) (f : ℕ) (firm : CountFirm)
+    → FitByCounts firms trades → slice_get firms f ≡ Some firm
+    → ExchangesByCounts trades f firm ↔ MeetsExchange (unit_firm trades f firm)
+
+-- contracts by counts that can be signed together are unit contracts that can, and each has as many twins as it has units,
+-- all of its own trade
+pub record UnitContractsAreOfContracts : Type 0 where
+  pub feasible : (trades : List UnitTrade) (contracts : List UnitContract) → AreUnitContracts trades contracts
+      → IsFeasible (unit_trades trades) (unit_contracts trades contracts)
+  pub each : (trades : List UnitTrade) (contracts : List UnitContract) → AreUnitContracts trades contracts
+      → (k : ℕ) → k < length contracts
+      → count_below (λ u. k == split_of contracts (trade_of trades u) (twins_before trades u)) (unit_count trades)
+      ≡ (contract_at contracts k).units
+  pub own : (contracts : List UnitContract) (k t m : ℕ) → k < length contracts → split_of contracts t m ≡ k
+      → (contract_at contracts k).trade ≡ t
+
+-- no firm would rather drop some of its units exactly where no firm would rather drop some of its unit contracts
+abbrev pub RationalByCounts : Type 0
+RationalByCounts = (firms : List CountFirm) (trades : List UnitTrade) (over : ℤ) (contracts : List UnitContract)
+    → FitByCounts firms trades → AreUnitContracts trades contracts
+    → IsRationalByCounts firms trades over contracts
+    ↔ IsIndividuallyRational (unit_firms trades firms) (unit_trades trades) over (unit_contracts trades contracts)
+
+-- prices of the unsigned units complete an outcome exactly where they complete its unit contracts, at one price for the
+-- unsigned twins of a trade
+abbrev pub CompletedByCounts : Type 0
+CompletedByCounts = (firms : List CountFirm) (trades : List UnitTrade) (over : ℤ) (contracts : List UnitContract)
+    (prices : ℕ → ℤ) → FitByCounts firms trades → AreUnitContracts trades contracts
+    → CompletesByCounts firms trades over contracts prices
+    ↔ Completes (unit_firms trades firms) (unit_trades trades) over (unit_contracts trades contracts)
+    (split_price trades contracts prices)
+
+-- where firms meet exchange, some prices of units complete an outcome exactly where some prices of twins complete its unit
+-- contracts, the same for twins or not
+abbrev pub CompletableByCounts : Type 0
+CompletableByCounts = (firms : List CountFirm) (trades : List UnitTrade) (over : ℤ) (contracts : List UnitContract)
+    → FitByCounts firms trades → AreUnitContracts trades contracts → MeetExchange (unit_firms trades firms)
+    → pos 1 ≤ℤ over
+    → ((prices : ℕ → ℤ) × CompletesByCounts firms trades over contracts prices)
+    ↔ ((prices : ℕ → ℤ)
+    × Completes (unit_firms trades firms) (unit_trades trades) over (unit_contracts trades contracts) prices)
+
+-- where offers by counts block an outcome, the unit offers block its unit contracts, and the other way round, where each
+-- offer has a unit and they can be signed beside the contracts; so an outcome whose unit contracts are stable is stable by
+-- counts
+pub record BlockedByCounts : Type 0 where
+  pub blocks : (firms : List CountFirm) (trades : List UnitTrade) (d : ℤ) (contracts : List UnitContract) (e : ℤ)
+      (offers : List UnitContract) → FitByCounts firms trades
+      → BlocksByCounts firms trades d contracts e offers
+      → Blocks (unit_firms trades firms) (unit_trades trades) d (unit_contracts trades contracts) e
+      (unit_offers trades contracts offers)
+  pub by_counts : (firms : List CountFirm) (trades : List UnitTrade) (d : ℤ) (contracts : List UnitContract) (e : ℤ)
+      (offers : List UnitContract) → FitByCounts firms trades → AreUnitContracts trades (contracts ++ offers)
+      → ((k : ℕ) (offer : UnitContract) → slice_get offers k ≡ Some offer → 0 < offer.units)
+      → Blocks (unit_firms trades firms) (unit_trades trades) d (unit_contracts trades contracts) e
+      (unit_offers trades contracts offers)
+      → BlocksByCounts firms trades d contracts e offers
+  pub stable : (firms : List CountFirm) (trades : List UnitTrade) (d : ℤ) (contracts : List UnitContract)
+      → FitByCounts firms trades
+      → IsStable (unit_firms trades firms) (unit_trades trades) d (unit_contracts trades contracts)
+      → IsStableByCounts firms trades d contracts
+
+-- no contracts for single units, over any denominator, block an outcome that some prices complete, and no offers by counts
+pub record CompletedByCountsAreStable : Type 0 where
+  pub over_units : (firms : List CountFirm) (trades : List UnitTrade) (over : ℤ) (contracts : List UnitContract)
+      (prices : ℕ → ℤ) → FitByCounts firms trades → AreUnitContracts trades contracts
+      → CompletesByCounts firms trades over contracts prices
+      → IsStable (unit_firms trades firms) (unit_trades trades) over (unit_contracts trades contracts)
+  pub by_counts : (firms : List CountFirm) (trades : List UnitTrade) (over : ℤ) (contracts : List UnitContract)
+      (prices : ℕ → ℤ) → FitByCounts firms trades → AreUnitContracts trades contracts
+      → CompletesByCounts firms trades over contracts prices → IsStableByCounts firms trades over contracts

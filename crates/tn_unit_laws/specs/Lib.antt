@@ -1,3 +1,5 @@
 -- The files of definitions of this crate.
 pub mod Units
+pub mod Exchange
+pub mod Outcomes
 pub mod Laws

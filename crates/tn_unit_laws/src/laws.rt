@@ -1,7 +1,7 @@
 //! Laws of the unit network. Each is the contract of a function with an empty body: calling it proves nothing more, and
 //! costs nothing.
 
-ghost use Rattle.tn_unit_laws.specs.Laws.{CountsAreOfSets, EfficientByCounts, EquilibriaByCountsAreEquilibria, EquilibriaByCountsAreStable, LossesBoundUnitPrices, MarketsFitByCounts, MarketsMeetExchange, MoreSurplusBarsUnitPrices, NegativeCyclesBarUnitPrices, OnePriceIsEnough, TwinsCostTheSame, UnitsMakeNetworks};
+ghost use Rattle.tn_unit_laws.specs.Laws.{BlockedByCounts, CompletableByCounts, CompletedByCounts, CompletedByCountsAreStable, CountsAreOfSets, EfficientByCounts, EquilibriaByCountsAreEquilibria, EquilibriaByCountsAreStable, ExchangeByCounts, LossesBoundUnitPrices, MarketsFitByCounts, MarketsMeetExchange, MoreSurplusBarsUnitPrices, NegativeCyclesBarUnitPrices, OnePriceIsEnough, RationalByCounts, TwinsCostTheSame, UnitContractsAreOfContracts, UnitsMakeNetworks};
 
 /// Firms by counts, and trades of many units between two different ones of them, make a network in which each unit is a
 /// trade of its own: each firm has a position for each unit of its trades.
@@ -74,4 +74,47 @@ pub fn one_price_is_enough()
 /// counts over nested sets of its unit trades, and of an amount for each.
 pub fn markets_meet_exchange()
     ensures { MarketsMeetExchange }
+{}
+
+/// A unit firm meets the exchange property exactly where its firm exchanges by counts: of two counts, where the level of
+/// the first is above that of the second at a trade, or at null, some other place is the other way round, and both may be
+/// moved by a unit towards each other without loss.
+pub fn exchange_by_counts()
+    ensures { ExchangeByCounts }
+{}
+
+/// Contracts of several units are as many contracts of one unit, on different twins: each contract has as many twins as it
+/// has units, all of them of its trade.
+pub fn unit_contracts_are_of_contracts()
+    ensures { UnitContractsAreOfContracts }
+{}
+
+/// An outcome by counts is rational exactly where the list of its unit contracts is, in the words of networks without
+/// units: no firm would rather drop some.
+pub fn rational_by_counts()
+    ensures { RationalByCounts }
+{}
+
+/// Prices complete an outcome by counts exactly where they complete its unit contracts.
+pub fn completed_by_counts()
+    ensures { CompletedByCounts }
+{}
+
+/// Where the unit firms meet the exchange property, some prices complete an outcome by counts exactly where some prices of
+/// single units, the same for twins or not, complete its unit contracts.
+pub fn completable_by_counts()
+    ensures { CompletableByCounts }
+{}
+
+/// Offers by counts block an outcome by counts exactly where their unit offers, on the twins after those that are signed,
+/// block its unit contracts: each firm of an offer takes all of its own in every choice. So what is stable over single units
+/// is stable by counts.
+pub fn blocked_by_counts()
+    ensures { BlockedByCounts }
+{}
+
+/// An outcome by counts that some prices complete is stable: no contracts for single units, over any denominator, block it,
+/// and no offers by counts.
+pub fn completed_by_counts_are_stable()
+    ensures { CompletedByCountsAreStable }
 {}
