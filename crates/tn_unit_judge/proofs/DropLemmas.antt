@@ -8,11 +8,11 @@ use Rattle.std.proofs.lemmas.List.FromFn.{get_or-map-range_with_len, length-map-
 use Rattle.std.proofs.lemmas.Option.{get_or_from_slice_get, none-some, same_Some, slice_get-get_or}
 use Rattle.std.proofs.Math.IntN.{*ℤ-one, *ℤ_comm}
 use Rattle.tn_base.specs.Arcs.{IsAtMost}
-use Rattle.tn_links.specs.Widths.{most_each}
 use Rattle.tn_links.proofs.TotalLemmas.{total-same}
 use Rattle.tn_counts.specs.Counts.{AreCounts, CountFirm, IsBestCount, count_utility, paid_to, trade_at}
 use Rattle.tn_counts.specs.Laminar.{firm_of, firms_of}
 use Rattle.tn_counts.specs.Outcomes.{HasEnd, IsRationalByCounts, all_signed, contract_at, joined, prices_beside, split_firms, split_trades, units_of}
+use Rattle.tn_counts.specs.Widths.{most_unit_price}
 use Rattle.tn_counts.specs.declared.contract.UnitContract.{UnitContract}
 use Rattle.tn_counts.specs.declared.market.UnitMarket.{UnitMarket}
 use Rattle.tn_counts.specs.declared.trade.UnitTrade.{UnitTrade}
@@ -326,8 +326,8 @@ split_there market contracts f below =
 -- ---- what is found
 
 pub prices_small : (n : ℕ) (contracts : List UnitContract)
-    → ((k : ℕ) (contract : UnitContract) → slice_get contracts k ≡ Some contract → IsAtMost contract.price most_each)
-    → (k : ℕ) → IsAtMost (price_in (signed_prices n contracts) k) most_each
+    → ((k : ℕ) (contract : UnitContract) → slice_get contracts k ≡ Some contract → IsAtMost contract.price most_unit_price)
+    → (k : ℕ) → IsAtMost (price_in (signed_prices n contracts) k) most_unit_price
 prices_small n contracts small k = elim (cases_lt k (length contracts)) [
   | inl signed ↦
       let own = small k (contract_at contracts k)
@@ -341,22 +341,28 @@ prices_small n contracts small k = elim (cases_lt k (length contracts)) [
       record { low = omega (arith, ints, same); high = omega (arith, ints, same) }
 ]
 
+-- what is signed is within the split network, whatever is free
+pub signed_fit : (market : UnitMarket) (over : ℕ) (contracts : List UnitContract) (free : ℕ → ℕ) (split : UnitMarket)
+    → IsSplitMarket market over contracts free split
+    → AreCounts split.trades.items (count_in (signed_counts (length market.trades.items) contracts))
+signed_fit market over contracts free split is k below =
+    let count = count_at (length market.trades.items) contracts k in
+    elim (cases_lt k (length contracts)) [
+      | inl signed ↦
+          let units = ap (λ (ts : List UnitTrade). (trade_at ts k).units) is.trades
+          ∙ ap (λ (p : UnitTrade). p.units) (split_signed market.trades.items contracts free k signed) in
+          omega (arith, count, units)
+      | inr past ↦
+          let none = ap (λ (c : UnitContract). c.units)
+          (get_or_past contracts k (record { trade = 0; units = 0; price = pos 0 }) past) in
+          omega (arith, count, none)
+    ]
+
 module _ (market : UnitMarket) (over : ℕ) (contracts : List UnitContract) (split : UnitMarket)
     (known : AreKnown (length market.trades.items) contracts)
     (is : IsSplitMarket market over contracts (λ t. 0) split) where
   pub signed_within : AreCounts split.trades.items (count_in (signed_counts (length market.trades.items) contracts))
-  signed_within k below =
-      let count = count_at (length market.trades.items) contracts k in
-      elim (cases_lt k (length contracts)) [
-        | inl signed ↦
-            let units = ap (λ (ts : List UnitTrade). (trade_at ts k).units) is.trades
-            ∙ ap (λ (p : UnitTrade). p.units) (split_signed market.trades.items contracts (λ t. 0) k signed) in
-            omega (arith, count, units)
-        | inr past ↦
-            let none = ap (λ (c : UnitContract). c.units)
-            (get_or_past contracts k (record { trade = 0; units = 0; price = pos 0 }) past) in
-            omega (arith, count, none)
-      ]
+  signed_within = signed_fit market over contracts (λ t. 0) split is
 
   module _ (firms : List FirmCount) (sold bought : List ℕ) (long : length firms ≡ split.firms)
       (held : (f : ℕ) (said : FirmCount) → slice_get firms f ≡ Some said

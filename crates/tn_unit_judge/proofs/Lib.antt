@@ -4,3 +4,6 @@ pub mod MadeLemmas
 pub mod SplitLemmas
 pub mod WideLemmas
 pub mod DropLemmas
+pub mod FreeLemmas
+pub mod TwinLemmas
+pub mod CompletionLemmas

@@ -3,11 +3,10 @@
 ghost use Rattle.std.specs.Prelude.{◌≡◌, ◌==◌, if◌then◌else◌, ℕ, ◌<◌, ◌≤◌, pos, true, false, length, map, slice_get, Some, IfOk};
 ghost use Rattle.std.specs.List.{range_with_len};
 ghost use Rattle.tn_base.specs.Arcs.{IsAtMost};
-ghost use Rattle.tn_links.specs.Widths.{most_each};
 ghost use Rattle.tn_counts.specs.Laminar.{firms_of};
 ghost use Rattle.tn_counts.specs.Markets.{IsUnitMarket};
 ghost use Rattle.tn_counts.specs.Outcomes.{AreUnitContracts};
-ghost use Rattle.tn_counts.specs.Widths.{most_unit_firms, most_unit_trades, most_wide_trades};
+ghost use Rattle.tn_counts.specs.Widths.{most_unit_firms, most_unit_price, most_unit_trades, most_wide_trades};
 ghost use Rattle.tn_counts.specs.declared.contract.UnitContract.{UnitContract};
 ghost use Rattle.tn_unit_judge.specs.Verdict.{FindsDropByCounts, FindsGain, kept_at};
 
@@ -114,7 +113,7 @@ pub fn first_drop(
     requires few { length contracts.now ≤ most_unit_trades }
     requires contracts { AreUnitContracts market.now.trades.items contracts.now }
     requires small { (k : ℕ) (contract : UnitContract) → slice_get contracts.now k ≡ Some contract
-        → IsAtMost contract.price most_each }
+        → IsAtMost contract.price most_unit_price }
     ensures { IfOk result (FindsDropByCounts (firms_of market.now) market.now.trades.items (pos over) contracts.now) }
 {
     let trades = market.trades.len() as u32;

@@ -1,8 +1,14 @@
 //! Outcomes of markets whose trades have units: which firm would drop contracts, and which prices complete them.
 #![tactic(auto)]
 
+mod completions;
+mod contracts;
 mod drops;
+mod judge;
 mod lists;
 mod split;
 
+pub use completions::{UnitCompletion, completion};
+pub use contracts::are_served_contracts;
 pub use drops::{UnitDrop, first_drop};
+pub use judge::{UnitVerdict, judge_outcome};

@@ -3,7 +3,7 @@
 ghost use Rattle.std.specs.Prelude.{◌≡◌, ℕ, ◌<◌, ◌≤◌, ◌++◌, pos, length, map, slice_get, Some, IfOk};
 ghost use Rattle.std.specs.List.{range_with_len};
 ghost use Rattle.tn_base.specs.Arcs.{IsAtMost};
-ghost use Rattle.tn_links.specs.Widths.{most_each};
+ghost use Rattle.tn_counts.specs.Widths.{most_unit_price};
 ghost use Rattle.tn_counts.specs.declared.contract.UnitContract.{UnitContract};
 ghost use Rattle.tn_unit_judge.specs.Split.{signed_counts, signed_prices};
 
@@ -39,8 +39,8 @@ pub(crate) fn counts_of(
 }
 
 /// The price of a contract.
-fn price_of(contract: &UnitContract) -> i64
-    requires { IsAtMost contract.now.price most_each }
+pub(crate) fn price_of(contract: &UnitContract) -> i64
+    requires { IsAtMost contract.now.price most_unit_price }
     ensures { result ≡ contract.now.price }
 {
     contract.price as i64
@@ -49,7 +49,7 @@ fn price_of(contract: &UnitContract) -> i64
 /// The prices of the contracts.
 fn contract_prices(alloc: Global, contracts: &[UnitContract]) -> Result<Vec<i64>, OutOfMemory>
     requires { (k : ℕ) (contract : UnitContract) → slice_get contracts.now k ≡ Some contract
-        → IsAtMost contract.price most_each }
+        → IsAtMost contract.price most_unit_price }
     ensures { IfOk result (λ prices. prices.items ≡ map (λ contract. contract.price) contracts.now) }
 {
     let mut prices = Vec::new(alloc);
@@ -66,7 +66,7 @@ pub(crate) fn prices_of(
     contracts: &[UnitContract],
 ) -> Result<Vec<i64>, OutOfMemory>
     requires { (k : ℕ) (contract : UnitContract) → slice_get contracts.now k ≡ Some contract
-        → IsAtMost contract.price most_each }
+        → IsAtMost contract.price most_unit_price }
     ensures { IfOk result (λ prices. prices.items ≡ signed_prices trades contracts.now) }
 {
     let mut prices = contract_prices(alloc, contracts)?;

@@ -1,10 +1,9 @@
 -- What shows the clauses of `first_drop` of `src/drops.rt`.
 use Rattle.std.proofs.Common.{◌≡◌, ℕ, List, length, map, Some, None, slice_get, refl, sym, ap, ◌∙◌, subst, arith, ℤ}
 use Rattle.std.specs.List.{range_with_len}
+use Rattle.std.proofs.lemmas.Int.{ints}
 use Rattle.std.proofs.lemmas.List.FromFn.{get_or-map-range_with_len, length-map-range_with_len}
 use Rattle.std.proofs.lemmas.Option.{slice_get_read}
-use Rattle.tn_base.specs.Arcs.{IsAtMost}
-use Rattle.tn_links.specs.Widths.{most_each}
 use Rattle.tn_counts.specs.Counts.{AreCounts}
 use Rattle.tn_counts.specs.Laminar.{firm_of}
 use Rattle.tn_counts.specs.declared.contract.UnitContract.{UnitContract}
@@ -61,9 +60,9 @@ hold_wide-requires-clause-within c =
 
 pub hold_wide-requires-clause-small : goal.hold_wide-requires-clause-small
 hold_wide-requires-clause-small c = λ t below.
-    subst (λ (xs : List ℤ). IsAtMost (price_in xs t) most_each)
-    (sym (c.deref-3.ensures.value ∙ c.in_ok-prices.ensures))
-    (prices_small c.len-trades.result c.args.contracts.now c.requires.small t)
+    let small = prices_small c.len-trades.result c.args.contracts.now c.requires.small t in
+    let same = ap (λ (xs : List ℤ). price_in xs t) (c.deref-3.ensures.value ∙ c.in_ok-prices.ensures) in
+    record { low = omega (arith, ints, small.low, same); high = omega (arith, ints, small.high, same) }
 
 held_by : (trades : List UnitTrade) (split : UnitMarket) (counts own : List ℕ) (prices beside : List ℤ)
     (sold bought : List ℕ) (firms : List FirmCount) → counts ≡ own → prices ≡ beside
