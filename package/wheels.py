@@ -68,15 +68,20 @@ def package_files():
 
 
 def node_files():
-    """What node runs, with all that it imports, where they stand in the repository."""
-    waiting, found = list(RUN_BY_NODE), dict.fromkeys(READ_THERE)
+    """What node runs for the package, by its paths in the wheel."""
+    return {f"{PACKAGE}/node/{path}": HOME / path for path in with_imports(RUN_BY_NODE)}
+
+
+def with_imports(run):
+    """Modules that node runs, with all that they import and the page, by their paths in the repository."""
+    waiting, found = list(run), dict.fromkeys(READ_THERE)
     while waiting:
         path = waiting.pop()
         found[path] = None
         named = IMPORTED.findall((HOME / path).read_text(encoding="utf-8"))
         paths = {posixpath.normpath(posixpath.join(posixpath.dirname(path), other)) for other in named}
         waiting += sorted(paths.difference(found))
-    return {f"{PACKAGE}/node/{path}": HOME / path for path in found}
+    return list(found)
 
 
 def licence():

@@ -8,8 +8,8 @@ from fractions import Fraction
 
 from lanes_drawn import best_surplus, chain_tables, drawn_network, drawn_tables
 from lanes_flow import by_scipy, in_money
-from lanes_lib import more, report
-from lanes_lib.progress import Progress
+from lane_reports import more, report
+from lane_reports.progress import Progress
 from trading_networks.lane_tables import FIRM_COLUMNS, LANE_COLUMNS, network_of
 from trading_networks.lanes import sizes_in_units
 from trading_networks.tables import Trouble, digits, read_table

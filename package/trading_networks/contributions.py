@@ -1,5 +1,5 @@
 """What the market has less without each firm and without each trade, and what each firm would pay by Clarke's rule: sums
-and differences of what one process answers to sessions in which firms and trades go and come back (docs/WHO.md)."""
+and differences of what one process answers to sessions in which firms and trades go and come back (docs/CONTRIBUTIONS.md)."""
 from __future__ import annotations
 
 from dataclasses import dataclass

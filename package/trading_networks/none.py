@@ -1,4 +1,4 @@
-"""Whether a network has no prices, by the JavaScript of the page, which node runs (docs/NONE.md)."""
+"""Whether a network has no prices, by the JavaScript of the page, which node runs (docs/REPLAY.md)."""
 from __future__ import annotations
 
 import json

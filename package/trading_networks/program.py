@@ -39,20 +39,28 @@ def is_in_repository() -> bool:
     return (REPOSITORY / "crates.txt").is_file()
 
 
+def is_in_release() -> bool:
+    """Whether the package stands in what tools/release makes, beside the program."""
+    return (REPOSITORY / "BUILT-OF").is_file()
+
+
 def modules() -> pathlib.Path:
     """The folder with page/ and tools/node/, which node runs."""
-    return REPOSITORY if is_in_repository() else PACKAGE / "node"
+    return REPOSITORY if is_in_repository() or is_in_release() else PACKAGE / "node"
 
 
 def find(program: Optional[Path] = None) -> str:
     """The path of the program that is asked: the one that is named; or else the one that MARKET names in the
-    environment; in the repository the one that ./market runs; where the package was installed its own, or its own module
-    under node; or `market` on the PATH. Raises NoProgram where there is none."""
+    environment; in the repository the one that ./market runs; where the package was installed or stands in a release the
+    one that came with it, or the module under node; or `market` on the PATH. Raises NoProgram where there is none."""
     named = program or os.environ.get("MARKET")
     if named:
         return os.fspath(named)
     try:
-        return _launched(REPOSITORY) if is_in_repository() else _installed(PACKAGE)
+        if is_in_repository():
+            return _launched(REPOSITORY)
+        native = REPOSITORY / "market" if is_in_release() else PACKAGE / "program" / "market"
+        return _installed(native, modules() / "page" / "market.mjs")
     except NoProgram as error:
         found = shutil.which("market")
         if found is None:
@@ -73,9 +81,8 @@ def _launched(home: pathlib.Path) -> str:
 
 
 @functools.lru_cache(maxsize=None)
-def _installed(package: pathlib.Path) -> str:
+def _installed(native: pathlib.Path, module: pathlib.Path) -> str:
     """The path of the program that came with the package, where it runs here, and otherwise that of the module."""
-    native, module = package / "program" / "market", package / "node" / "page" / "market.mjs"
     if native.is_file() and platform.system() == "Linux" and _runs([str(native)]):
         return str(native)
     if module.is_file() and _runs(served.words_for(str(module))):

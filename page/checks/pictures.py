@@ -1,6 +1,5 @@
 """The pictures of the page in docs/pictures, each of something that is done in it by pointer and keys. tools/screenshots writes them."""
 import base64
-from pathlib import Path
 
 import bench
 import lesson

@@ -18,7 +18,7 @@ export function layout(boxes, arrows, room) {
 }
 
 /** A layout that leaves no room for labels. */
-export function closely(boxes, arrows, room) {
+function closely(boxes, arrows, room) {
     return placed(boxes, arrows, room, false);
 }
 

@@ -5,7 +5,7 @@
  * `{does, trade, partner}`, where `does` is one of "keep back", "buy", "give up" and "sell". Where trades have units a node is a
  * step, a trade with 1 or -1; `does` is one of "buy more", "buy fewer", "sell more" and "sell fewer" then, and each act has its `by`.
  */
-export function changeOf(network, on, from, to) {
+function changeOf(network, on, from, to) {
     const [leaves, comes] = [from, to].some(Array.isArray) ? [leave, come] : [rise, fall];
     const acts = [from === null ? null : leaves(network, from, on), to === null ? null : comes(network, to, on)].filter((act) => act !== null);
     return {firm: acts[0].firm, toggled: acts.map(({trade}) => trade), acts};

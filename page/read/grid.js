@@ -17,7 +17,7 @@ const DASH = /^[-\u2013\u2014]$/;
 const TABLE = "grid", NUMBER = /^[+-]?[\d ']+([.,]\d+)?$/;
 
 /** Rows without those at the end in which nothing stands, each as long as the longest. */
-export function squared(rows) {
+function squared(rows) {
     const plain = rows.map((row) => row.map(plainText)), isFull = (cell) => cell !== "";
     const height = plain.findLastIndex((row) => row.some(isFull)) + 1, width = Math.max(0, ...plain.map((row) => row.findLastIndex(isFull) + 1));
     return plain.slice(0, height).map((row) => Array.from({length: width}, (_, k) => row[k] ?? ""));

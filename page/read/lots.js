@@ -168,7 +168,7 @@ export function codesOf(firms) {
 }
 
 /** Plain data as text, with a blank behind each comma and each colon. */
-export function spaced(value) {
+function spaced(value) {
     if (Array.isArray(value)) return `[${value.map(spaced).join(", ")}]`;
     if (typeof value === "object") return `{${Object.entries(value).map(([name, member]) => `${JSON.stringify(name)}: ${spaced(member)}`).join(", ")}}`;
     return typeof value === "bigint" ? String(value) : JSON.stringify(value);

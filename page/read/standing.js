@@ -5,7 +5,7 @@ import {say} from "../words/say.js";
 const JUDGED = ["drops", "completes", "blocks"];
 
 /** Whether the answer, or the claim that it decides, is one of `judge`. */
-export function isJudged(network, said) {
+function isJudged(network, said) {
     const decided = said.answer === "valid" || said.answer === "invalid";
     return JUDGED.includes(decided ? network.claim.answer : said.answer);
 }

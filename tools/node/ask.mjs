@@ -4,11 +4,16 @@ import {existsSync} from "node:fs";
 import {fileURLToPath} from "node:url";
 import {compiledOf, programOf} from "../../page/module.mjs";
 
-const LAUNCHER = fileURLToPath(new URL("../../market", import.meta.url));
+const [LAUNCHER, BUILT_OF, MODULE] = ["market", "BUILT-OF", "page/market.mjs"].map((name) => fileURLToPath(new URL(`../../${name}`, import.meta.url)));
 
-/** The path of the program that is asked: the one that MARKET names, or what the launcher runs; "" where it would have to build. */
+/**
+ * The path of the program that is asked: the one that MARKET names, or what the launcher runs; "" where it would have to build. What
+ * is handed on has the program in place of the launcher, and the module for where that doesn't run.
+ */
 function found() {
-    return process.env.MARKET || (spawnSync(LAUNCHER, ["--which"], {encoding: "utf8"}).stdout ?? "").trim();
+    if (process.env.MARKET) return process.env.MARKET;
+    if (existsSync(BUILT_OF)) return spawnSync(LAUNCHER, ["--version"]).status === 0 ? LAUNCHER : MODULE;
+    return (spawnSync(LAUNCHER, ["--which"], {encoding: "utf8"}).stdout ?? "").trim();
 }
 
 /**

@@ -29,7 +29,7 @@ const AT_FIRST = {isOver: false, hasRanges: false, hasReason: false, window: nul
  * the document's note does, `step` is the place in a story that is told, and `built` that of the firm in the form, beside which a `sheet` of tables may be open. `supposed` is who is away and what is barred before and after a change, as edits; `compared` and `contributed` are
  * what was said of it. `auction` is null, or an auction of the market as far as it went.
  */
-export const START = {
+const START = {
     document: {name: "", bytes: new Uint8Array(0), text: "", isWhole: true, exercise: null, tries: 0}, past: [], future: [], outside: null,
     mark: null, risen: null, selection: null,
     guess: null, ranges: null, path: null, judged: null, decided: null, reason: null, results: [], words: ["solve"], run: {state: "none"}, answer: null,
@@ -55,7 +55,7 @@ function placeOf({document}, {name}) {
 }
 
 /** What may happen. Each takes a value, and answers the next one. */
-export const ACTIONS = {
+const ACTIONS = {
     /** A document was opened: it is asked about as the bytes of its file, until it is edited. */
     opened: (value, name, bytes) => {
         const document = documentOf(name, bytes), isApart = (document.exercise ?? value.document.exercise) !== null;

@@ -11,7 +11,7 @@ const MOST = 80;
 const WRITTEN_OUT = {ä: "ae", ö: "oe", ü: "ue", Ä: "Ae", Ö: "Oe", Ü: "Ue", ß: "ss", æ: "ae", Æ: "Ae", œ: "oe", Œ: "Oe", ø: "o", Ø: "O", ł: "l", Ł: "L"};
 
 /** A text in the letters that a name may have; nothing where none of its signs is one. */
-export function plainOf(text) {
+function plainOf(text) {
     const written = [...text.normalize("NFC")].map((sign) => WRITTEN_OUT[sign] ?? sign).join("").normalize("NFKD").replace(/\p{M}/gu, "");
     return written.replace(/[^A-Za-z0-9_.]+/g, "-").replace(/^-+|-+$/g, "").slice(0, 32);
 }

@@ -3,7 +3,7 @@
 import {UNIT_LIMITS} from "../../read/limits.js";
 import {asSaid, listOf} from "../../read/steps.js";
 import {say} from "../../words/say.js";
-import {itemAdded, itemsIn, numbered, textAt} from "../document/building.js";
+import {itemAdded, itemsIn, numbered} from "../document/building.js";
 import {countingSet} from "../document/kinds.js";
 import {memberOf, put, replaced, sent, without} from "../document/edits.js";
 import {unitsOf} from "../../read/standing.js";

@@ -207,7 +207,7 @@ function bindGuess(store, {ask}) {
 }
 
 /** The buttons that save a table and put it on the clipboard. */
-export function bindTable(id, tableOf, nameOf) {
+function bindTable(id, tableOf, nameOf) {
     on(`${id}-csv`, () => saveTable(`${stem(nameOf())}-${id}`, tableOf()));
     on(`${id}-copy`, () => copyTable(tableOf()));
 }

@@ -44,7 +44,7 @@ function showButtons(value, told) {
 }
 
 /** Whether an answer has whole prices for all trades, which a guess can have. */
-export function canBeTaken(said) {
+function canBeTaken(said) {
     return said?.answer === "prices" || (said?.answer === "completes" && said.over === 1n);
 }
 

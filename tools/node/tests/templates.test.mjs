@@ -3,7 +3,6 @@ import assert from "node:assert/strict";
 import {readdirSync, readFileSync} from "node:fs";
 import {test} from "node:test";
 import {EMPTY} from "../../../page/app/document/building.js";
-import {applied} from "../../../page/app/document/edits.js";
 import {formOf} from "../../../page/app/form/fields.js";
 import {parse, plain, written} from "../../../page/read/json.js";
 import {isObject, Network} from "../../../page/read/network.js";
