@@ -59,8 +59,8 @@ def held(report: str, is_anew: bool, jobs: int) -> int:
     files = [(it.name, file.name) for it in with_edits for file in sorted((it.folder / "must-fail").glob("*.edit"))]
     results = [tell([it for it in [why_stale(crate)] if it]) for crate in with_edits]
     results += [tell([it for it in [why_not(crate, file, said.get((crate, file), ""))] if it]) for crate, file in files]
-    results.append(tell([] if (ROOT / "docs/REFUSED.md").read_text(encoding="utf-8") == page()
-                        else ["docs/REFUSED.md isn't what tools/refused --page makes"]))
+    results.append(tell([] if (ROOT / "docs/edits/REFUSED.md").read_text(encoding="utf-8") == page()
+                        else ["docs/edits/REFUSED.md isn't what tools/refused --page makes"]))
     stale = [it for it in with_edits if edits_of_bodies(it) and (is_anew or read_record(it).sources != sources_of(it))]
     chosen = list(dict.fromkeys([drawn(), *stale]))
     print(f"tried anew: {' '.join(it.name for it in chosen)}; the records of the other crates are of these sources", flush=True)
