@@ -9,8 +9,7 @@ HEAD = """# Wrong edits that are refused
 A wrong edit turns the meaning of a function, or of a definition where a crate has laws alone. The crate with it must not be
 proved. Here stands for each in which function it is refused, or in which file of the proofs, and at which goal. A goal's name
 says which way the function's body ended, and after `clause-` which clause of the contract was not met; one with `requires` is a
-condition of a call. [PROVED.md](../PROVED.md#wrong-programs-that-are-refused) says how they are tried, and what those that tell
-most show.
+condition of a call. [README](README.md) says how they are tried, and what those that tell most show.
 
 Several edits are tried by one check, as far as none hides another: at most one of a function, and none whose goal isn't
 searched before a function is proved that another one changes. The gate tries the first pass of each crate, as one edit; an edit
