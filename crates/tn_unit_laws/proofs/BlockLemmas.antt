@@ -1,73 +1,43 @@
 -- Offers by counts that block an outcome by counts are unit offers that block its unit contracts: a choice from the unit
 -- contracts is a best bundle of signed and offered twins, so its counts are best, and have all units of the firm's offers.
-use Rattle.std.proofs.Common.{◌≡◌, ℕ, zero, suc, ◌+◌, ◌-◌, ◌^◌, ◌<◌, ◌≤◌, Bool, true, false, not, ◌==◌, ◌&&◌, nat_lt, if◌then◌else◌, List, [], ◌∷◌, ◌++◌, length, get_or, slice_get, Option, Some, option_map, ◌⊎◌, inl, inr, refl, sym, ap, ap₂, ◌∙◌, subst, arith, length-append, ℤ, pos, ◌*ℤ◌}
+use Rattle.std.proofs.Common.{◌≡◌, ℕ, ◌+◌, ◌-◌, ◌^◌, ◌<◌, ◌≤◌, Bool, true, false, not, ◌==◌, ◌&&◌, nat_lt, if◌then◌else◌, List, ◌++◌, length, get_or, slice_get, Option, Some, option_map, inl, inr, refl, sym, ap, ap₂, ◌∙◌, subst, arith, length-append, ℤ, pos, ◌*ℤ◌}
 use Rattle.std.specs.Prelude.{unwrap_or}
 use Rattle.std.proofs.lemmas.Bool.{and_parts, cases_Bool, cases_lt, eq-eqb, eqb-true, lt-ltb, ltb-true, or_cases, or_left, or_right}
-use Rattle.std.proofs.lemmas.List.{get_or-append-add, length-map}
-use Rattle.std.proofs.lemmas.Option.{get_or_from_slice_get, slice_get-get_or, slice_get-map, slice_get_within}
+use Rattle.std.proofs.lemmas.List.{get_or-append-add}
+use Rattle.std.proofs.lemmas.Option.{get_or_from_slice_get, slice_get-get_or, slice_get_within}
 use Rattle.tn_base.specs.Firm.{Firm}
 use Rattle.tn_base.specs.Sets.{has}
-use Rattle.tn_base.proofs.SetLemmas.{has-minus, has-set_of, set_of_within}
+use Rattle.tn_base.proofs.SetLemmas.{has-minus, has-set_of}
 use Rattle.tn_model.specs.declared.contract.Contract.{Contract}
 use Rattle.tn_model.specs.declared.ends.Ends.{Ends}
-use Rattle.tn_model.specs.Choices.{Blocks, IsChoice, IsFeasible, IsStable, bundle_by, counted, is_end, is_of, is_traded, together}
+use Rattle.tn_model.specs.Choices.{Blocks, IsChoice, IsFeasible, IsStable, bundle_by, is_end, is_of, is_traded, together}
 use Rattle.tn_model.specs.Network.{own, part}
 use Rattle.tn_market.specs.Best.{IsSubset}
 use Rattle.tn_market.specs.Equilibrium.{utility_at}
-use Rattle.tn_market.specs.Signed.{contract_utility, is_signed, signed, signed_bundle, signed_price}
-use Rattle.tn_network_laws.proofs.PartLemmas.{traded_at, traded_by}
-use Rattle.tn_network_laws.proofs.PoolLemmas.{AreContractsOf, IsSigned, append_behind, append_cases, append_front, arrangement_has_contracts, counted_at, offer_in_pool}
-use Rattle.tn_outcome_laws.proofs.RationalLemmas.{IsSigner, between_signed, bundle_signed, choice_to_bundles, in_is, inside_signed, is_in, part_bundle, part_is_bundle, wanted_is_part, wanted_part}
-use Rattle.tn_outcome_laws.proofs.SignedLemmas.{has-signed_bundle}
+use Rattle.tn_market.specs.Signed.{signed, signed_bundle, signed_price}
+use Rattle.tn_network_laws.proofs.PartLemmas.{traded_at}
+use Rattle.tn_network_laws.proofs.PoolLemmas.{AreContractsOf, append_front, arrangement_has_contracts, offer_in_pool}
+use Rattle.tn_outcome_laws.proofs.RationalLemmas.{IsSigner, between_signed, choice_to_bundles, inside_signed}
 use Rattle.tn_outcome_laws.proofs.StableLemmas.{completed_is_stable}
 use Rattle.tn_counts.specs.Counts.{CountFirm, IsBestCount, count_utility, trade_at}
-use Rattle.tn_counts.specs.Outcomes.{AreUnitContracts, BlocksByCounts, CompletesByCounts, HasEnd, contract_at, counted as counted_units, joined, prices_beside, signed_units, split_firms, split_trades, together as together_units}
+use Rattle.tn_counts.specs.Outcomes.{AreUnitContracts, BlocksByCounts, CompletesByCounts, HasEnd, contract_at, joined, prices_beside, signed_units, split_firms, split_trades, together as together_units}
 use Rattle.tn_counts.specs.declared.contract.UnitContract.{UnitContract}
 use Rattle.tn_counts.specs.declared.trade.UnitTrade.{UnitTrade}
 use Rattle.tn_unit_laws.specs.Laws.{BlockedByCounts, CompletedByCountsAreStable, FitByCounts}
 use Rattle.tn_unit_laws.specs.Outcomes.{offered_twins, signed_twins, split_of, split_price, unit_contracts, unit_offers}
 use Rattle.tn_unit_laws.specs.Units.{is_own, own_units, trade_of, twins_before, unit_count, unit_firm, unit_firms, unit_trades}
-use Rattle.tn_unit_laws.proofs.CountLemmas.{count-none, count-same, more_or_none}
+use Rattle.tn_unit_laws.proofs.CountLemmas.{count-none, more_or_none}
 use Rattle.tn_unit_laws.proofs.UnitLemmas.{comes_from, length-units, unit_at, unit_firm_at}
 use Rattle.tn_unit_laws.proofs.BundleLemmas.{fits_network, own_here, place_of, place_within}
 use Rattle.tn_unit_laws.proofs.PaymentLemmas.{bundle_below}
 use Rattle.tn_unit_laws.proofs.SplitLemmas.{signed-append, split_behind, split_below, split_front, split_signed}
 use Rattle.tn_unit_laws.proofs.UnitContractLemmas.{are_contracts, each_has, feasible, has_on, kind_on, left_in, on_kind, on_within, set_feasible, set_priced, set_signed, signed_kind_is, signed_kinds, split_sized, split_trade}
-use Rattle.tn_unit_laws.proofs.KindLemmas.{IsBestOfKinds, IsOfKinds, best_by_kinds, best_counts, first_have, first_kinds, first_of_kinds, kinds_of, kinds_on, takes_whole}
+use Rattle.tn_unit_laws.proofs.KindLemmas.{IsBestOfKinds, IsOfKinds, best_counts, kinds_of, takes_whole}
 use Rattle.tn_unit_laws.proofs.OutcomeLemmas.{completed_is_by_counts, fellow_is, of_signed, signed_of, signed_worth_is, split_fit, split_from}
+use Rattle.tn_unit_laws.proofs.TogetherLemmas.{AreAll, AreOfKinds, all_taken, count_price, pool_are as pool_is, price_behind, price_front, price_is, price_together}
 
 differ : true ≡ false → ⊥
 differ e = absurd (cc)
-
--- ---- prices over the product of the denominators
-
-counted_price : (z : ℤ) (contracts : List UnitContract) (s : ℕ) → s < length contracts
-    → (contract_at (counted_units z contracts) s).price ≡ z *ℤ (contract_at contracts s).price
-counted_price z [] s below = absurd (omega (arith, below))
-counted_price z (contract ∷ contracts) zero below = refl
-counted_price z (contract ∷ contracts) (suc s) below = counted_price z contracts s (omega (arith, below))
-
-price_front : (e d : ℤ) (contracts offers : List UnitContract) (s : ℕ) → s < length contracts
-    → (contract_at (counted_units e contracts ++ counted_units d offers) s).price
-    ≡ e *ℤ (contract_at contracts s).price
-price_front e d [] offers s below = absurd (omega (arith, below))
-price_front e d (contract ∷ contracts) offers zero below = refl
-price_front e d (contract ∷ contracts) offers (suc s) below = price_front e d contracts offers s (omega (arith, below))
-
-price_behind : (e d : ℤ) (contracts offers : List UnitContract) (s : ℕ) → length contracts ≤ s
-    → s < length (contracts ++ offers)
-    → (contract_at (counted_units e contracts ++ counted_units d offers) s).price
-    ≡ d *ℤ (contract_at (contracts ++ offers) s).price
-price_behind e d [] offers s past below = counted_price d offers s below
-price_behind e d (contract ∷ contracts) offers zero past below = absurd (omega (arith, past))
-price_behind e d (contract ∷ contracts) offers (suc s) past below =
-    price_behind e d contracts offers s (omega (arith, past)) (omega (arith, below))
-
-price_is : (contracts : List UnitContract) (prices : ℕ → ℤ) (s : ℕ) → s < length contracts
-    → prices_beside contracts prices s ≡ (contract_at contracts s).price
-price_is contracts prices s below =
-    ap (λ (b : Bool). if b then (contract_at contracts s).price else prices (s - length contracts))
-    (lt-ltb s (length contracts) below)
 
 module _ (firms : List CountFirm) (trades : List UnitTrade) (fit : FitByCounts firms trades) (d : ℤ)
     (contracts : List UnitContract) (e : ℤ) (offers : List UnitContract)
@@ -177,7 +147,7 @@ module _ (firms : List CountFirm) (trades : List UnitTrade) (fit : FitByCounts f
   more_price u = split_price trades both (λ t. pos 0) u
 
   abbrev pool_price : ℕ → ℤ
-  pool_price u = if has more u then d *ℤ more_price u else e *ℤ set_price u
+  pool_price = price_together d e more more_price set_price
 
   outcome_are : AreContractsOf count set set_price outcome
   outcome_are = are_contracts trades contracts before
@@ -186,34 +156,6 @@ module _ (firms : List CountFirm) (trades : List UnitTrade) (fit : FitByCounts f
   offered_are = subst (λ (n : ℕ). AreContractsOf n more more_price offered) (sym long)
       (arrangement_has_contracts (unit_count trades) more more_price)
 
-  record IsFront (k : ℕ) (contract : Contract) : Type 0 where
-    original : Contract
-    is : slice_get offered k ≡ Some original
-    same : contract ≡ record { trade = original.trade; price = d *ℤ original.price }
-
-  record IsLate (k : ℕ) (contract : Contract) : Type 0 where
-    place : ℕ
-    at : k ≡ length (counted d offered) + place
-    original : Contract
-    is : slice_get outcome place ≡ Some original
-    same : contract ≡ record { trade = original.trade; price = e *ℤ original.price }
-
-  pool_cases : (k : ℕ) (contract : Contract) → slice_get pool k ≡ Some contract → IsFront k contract ⊎ IsLate k contract
-  pool_cases k contract at = elim (append_cases (counted d offered) (counted e outcome) k contract at) [
-    | inl front ↦
-        let from = counted_at d offered k contract front.0 in
-        inl (record { original = from.0; is = from.1; same = from.2 })
-    | inr behind ↦
-        let from = counted_at e outcome behind.place contract behind.is in
-        inr (record { place = behind.place; at = behind.at; original = from.0; is = from.1; same = from.2 })
-  ]
-
-  front_trade : (k : ℕ) (contract : Contract) (front : IsFront k contract) → contract.trade ≡ front.original.trade
-  front_trade k contract front = ap (λ (c : Contract). c.trade) front.same
-
-  late_trade : (k : ℕ) (contract : Contract) (late : IsLate k contract) → contract.trade ≡ late.original.trade
-  late_trade k contract late = ap (λ (c : Contract). c.trade) late.same
-
   -- no offered twin is signed
   apart : (j k : ℕ) (one other : Contract) → slice_get offered j ≡ Some one → slice_get outcome k ≡ Some other
       → one.trade ≡ other.trade → ⊥
@@ -221,68 +163,15 @@ module _ (firms : List CountFirm) (trades : List UnitTrade) (fit : FitByCounts f
       differ (sym (outcome_are.signed k other other_is).there ∙ ap (has set) (sym same)
       ∙ (more_parts one.trade (offered_are.signed j one one_is).there).1)
 
-  pool_are : AreContractsOf count all pool_price pool
-  pool_are = record {
-    signed = λ k contract at. elim (pool_cases k contract at) [
-      | inl front ↦
-          let there = offered_are.signed k front.original front.is in
-          subst (IsSigned all pool_price count) (sym front.same) (record {
-            below = there.below;
-            there = (more_parts front.original.trade there.there).0;
-            price = ap (λ (z : ℤ). d *ℤ z) there.price
-                ∙ sym (ap (λ (b : Bool). if b then d *ℤ more_price front.original.trade
-                else e *ℤ set_price front.original.trade) there.there);
-          })
-      | inr late ↦
-          let there = outcome_are.signed late.place late.original late.is in
-          subst (IsSigned all pool_price count) (sym late.same) (record {
-            below = there.below;
-            there = set_all late.original.trade (let inside = there.below in omega (arith, inside, long)) there.there;
-            price = ap (λ (z : ℤ). e *ℤ z) there.price
-                ∙ sym (ap (λ (b : Bool). if b then d *ℤ more_price late.original.trade
-                else e *ℤ set_price late.original.trade) (set_apart late.original.trade there.there));
-          })
-    ];
-    found = λ t below there. elim (cases_Bool (has set t)) [
-      | inl signed ↦
-          let found = outcome_are.found t below signed in (
-            length (counted d offered) + found.0,
-            record { trade = found.1.trade; price = e *ℤ found.1.price },
-            append_behind (counted d offered) (counted e outcome) found.0 (length (counted d offered) + found.0)
-                (record { trade = found.1.trade; price = e *ℤ found.1.price }) refl
-                (slice_get-map (λ (c : Contract). let one : Contract = record { trade = c.trade; price = e *ℤ c.price } in one)
-                outcome found.0
-                ∙ ap (option_map (λ (c : Contract). let one : Contract = record { trade = c.trade; price = e *ℤ c.price } in one))
-                found.2),
-            found.3,
-          )
-      | inr away ↦
-          let found = offered_are.found t below (more_from t there away) in (
-            found.0,
-            record { trade = found.1.trade; price = d *ℤ found.1.price },
-            offer_in_pool e d offered outcome found.0 found.1 found.2,
-            found.3,
-          )
-    ];
-    once = λ j k one other one_is other_is same. elim (pool_cases j one one_is) [
-      | inl first ↦ elim (pool_cases k other other_is) [
-        | inl second ↦ offered_are.once j k first.original second.original first.is second.is
-            (sym (front_trade j one first) ∙ same ∙ front_trade k other second)
-        | inr second ↦ absurd (apart j second.place first.original second.original first.is second.is
-            (sym (front_trade j one first) ∙ same ∙ late_trade k other second))
-      ]
-      | inr first ↦ elim (pool_cases k other other_is) [
-        | inl second ↦ absurd (apart k first.place second.original first.original second.is first.is
-            (sym (front_trade k other second) ∙ sym same ∙ late_trade j one first))
-        | inr second ↦
-            let places = outcome_are.once first.place second.place first.original second.original first.is second.is
-            (sym (late_trade j one first) ∙ same ∙ late_trade k other second) in
-            let first_at = first.at in
-            let second_at = second.at in
-            omega (arith, places, first_at, second_at)
-      ]
-    ];
+  are_all : AreAll count set more all
+  are_all = record {
+    set_in = λ u below there. set_all u (omega (arith, below, long)) there;
+    more_in = λ u below there. more_parts u there;
+    rest = λ u below there away. more_from u there away;
   }
+
+  pool_are : AreContractsOf count all pool_price pool
+  pool_are = pool_is count set more all are_all set_price more_price outcome offered outcome_are offered_are d e
 
   all_within : all < 2 ^ count
   all_within = subst (λ (n : ℕ). all < 2 ^ n) (sym long) (on_within trades both beside)
@@ -301,22 +190,6 @@ module _ (firms : List CountFirm) (trades : List UnitTrade) (fit : FitByCounts f
   abbrev count_prices : ℕ → ℤ
   count_prices = prices_beside (together_units d contracts e offers) (λ t. pos 0)
 
-  sized_together : length (together_units d contracts e offers) ≡ length both
-  sized_together =
-      let sum = length-append (counted_units e contracts) (counted_units d offers) in
-      let first = length-map contracts (λ (c : UnitContract).
-      let one : UnitContract = record { trade = c.trade; units = c.units; price = e *ℤ c.price } in one) in
-      let second = length-map offers (λ (c : UnitContract).
-      let one : UnitContract = record { trade = c.trade; units = c.units; price = d *ℤ c.price } in one) in
-      let whole = length-append contracts offers in
-      omega (arith, sum, first, second, whole)
-
-  count_price : (s : ℕ) → s < length both
-      → count_prices s ≡ (contract_at (together_units d contracts e offers) s).price
-  count_price s below =
-      price_is (together_units d contracts e offers) (λ t. pos 0) s
-      (let sized = sized_together in omega (arith, sized, below))
-
   pool_priced : (u : ℕ) → u < unit_count trades → kind u < length both → pool_price u ≡ count_prices (kind u)
   pool_priced u below inside = elim (cases_Bool (has set u)) [
     | inl signed ↦
@@ -328,14 +201,14 @@ module _ (firms : List CountFirm) (trades : List UnitTrade) (fit : FitByCounts f
         (split_of contracts (trade_of trades u) (twins_before trades u)) here)
         ∙ sym (price_front e d contracts offers (split_of contracts (trade_of trades u) (twins_before trades u)) here)
         ∙ ap (λ (s : ℕ). (contract_at (together_units d contracts e offers) s).price) (sym same)
-        ∙ sym (count_price (kind u) inside)
+        ∙ sym (count_price e d contracts offers (kind u) inside)
     | inr away ↦
         let there = more_from u (on_kind trades both beside u below inside) away in
         let behind = more_behind u below there in
         ap (λ (b : Bool). if b then d *ℤ more_price u else e *ℤ set_price u) there
         ∙ ap (λ (z : ℤ). d *ℤ z) (price_is both (λ t. pos 0) (kind u) inside)
         ∙ sym (price_behind e d contracts offers (kind u) behind.0 inside)
-        ∙ sym (count_price (kind u) inside)
+        ∙ sym (count_price e d contracts offers (kind u) inside)
   ]
 
   priced : (u : ℕ) → u < unit_count trades → signed_kind u < length split
@@ -526,168 +399,94 @@ module _ (firms : List CountFirm) (trades : List UnitTrade) (fit : FitByCounts f
 
   -- ---- the other way round
 
-  -- best counts are those of a bundle that some choice has
-  module _ (f : ℕ) (firm : CountFirm) (is : slice_get firms f ≡ Some firm) (counts : ℕ → ℕ) (value : ℤ)
-      (best : IsBestCount split (count_utility split (d *ℤ e) count_prices f
-      (record { worth = λ c. firm.worth (joined both c) })) counts value) where
-    abbrev m : ℕ
-    m = own_units trades f
-
-    abbrev partner : CountFirm
-    partner = record { worth = λ c. firm.worth (joined both c) }
-
-    abbrev chosen_twins : ℕ
-    chosen_twins = first_kinds firms trades fit f firm is (split_firms both firms) split
-        (split_fit firms trades fit both beside (λ t. 0)) partner (fellow_is firms trades fit both beside f firm is)
-        signed_kind (signed_kinds trades both beside) counts
-
-    abbrev z : ℕ
-    z = part (unit_trades trades) f m chosen_twins
-
-    z_within : z < 2 ^ m
-    z_within = set_of_within (λ k. has chosen_twins (own (unit_trades trades) f k)) m
-
-    z_has : (s : ℕ) → s < length split → kinds_on trades signed_kind chosen_twins s ≡ counts s
-    z_has = first_have firms trades fit f firm is (split_firms both firms) split
-        (split_fit firms trades fit both beside (λ t. 0)) partner (fellow_is firms trades fit both beside f firm is)
-        signed_kind (signed_kinds trades both beside) counts best.within
-
-    z_of : IsOfKinds trades split signed_kind f z
-    z_of = first_of_kinds firms trades fit f firm is (split_firms both firms) split
-        (split_fit firms trades fit both beside (λ t. 0)) partner (fellow_is firms trades fit both beside f firm is)
-        signed_kind (signed_kinds trades both beside) counts
-
-    z_best : IsBestOfKinds trades split signed_kind f
-        (utility_at (unit_trades trades) (d *ℤ e) (signed_price pool) f (unit_firm trades f firm)) z value
-    z_best =
-        (best_by_kinds firms trades fit f firm is (split_firms both firms) split
-        (split_fit firms trades fit both beside (λ t. 0)) partner (fellow_is firms trades fit both beside f firm is)
-        signed_kind (signed_kinds trades both beside) (d *ℤ e) count_prices (signed_price pool) priced
-        (signed_worth_is firms trades fit both beside f firm is) chosen_twins counts value z_has z_of).0 best
-
-    abbrev given : ℕ
-    given = signed_bundle (unit_trades trades) pool f (unit_firm trades f firm)
-
-    z_inside : IsSubset z given
-    z_inside = subst (IsSubset z) (sym (given_is f firm)) (signed_of firms trades fit both beside f firm is z z_within z_of)
-
-    -- the part of the pool that it is the bundle of
-    abbrev part_of : ℕ
-    part_of = wanted_part (unit_trades trades) f pool (is_in (unit_trades trades) f m z)
-
-    part_bundle_is : bundle_by (unit_trades trades) f m pool part_of ≡ z
-    part_bundle_is =
-        part_bundle (unit_firms trades firms) (unit_trades trades) pool f (unit_firm trades f firm) (signer f firm is)
-        (is_in (unit_trades trades) f m z) z z_within
-        (λ i below. with_signed (has z i) (is_signed pool (own (unit_trades trades) f i))
-        (λ there. sym (has-signed_bundle (unit_firms trades firms) (unit_trades trades) (fits_network firms trades fit) pool
-        f i (unit_firm trades f firm) (signer f firm is).is below) ∙ z_inside i there)
-        ∙ ap (λ (b : Bool). b && is_signed pool (own (unit_trades trades) f i))
-        (sym (in_is (unit_firms trades firms) (unit_trades trades) (fits_network firms trades fit) f (unit_firm trades f firm)
-        (signer f firm is).is z i below)))
-      where
-        with_signed : (b c : Bool) → (b ≡ true → c ≡ true) → b ≡ (b && c)
-        with_signed true c h = sym (h refl)
-        with_signed false c h = refl
-
-    part_choice : IsChoice (unit_trades trades) (d *ℤ e) f (unit_firm trades f firm) pool part_of
-    part_choice = record {
-      part = wanted_is_part (unit_trades trades) pool pool_feasible f (is_in (unit_trades trades) f m z);
-      value = value;
-      is = part_is_bundle (unit_firms trades firms) (unit_trades trades) (d *ℤ e) pool f (unit_firm trades f firm) (signer f firm is)
-          part_of (wanted_is_part (unit_trades trades) pool pool_feasible f (is_in (unit_trades trades) f m z))
-          ∙ ap (contract_utility (unit_trades trades) (d *ℤ e) pool f (unit_firm trades f firm)) part_bundle_is ∙ z_best.is;
-      most = λ w other w_part w_is.
-          z_best.most (bundle_by (unit_trades trades) f m pool w) other
-          (of_signed firms trades fit both beside f firm is (bundle_by (unit_trades trades) f m pool w)
-          (subst (IsSubset (bundle_by (unit_trades trades) f m pool w)) (given_is f firm)
-          (bundle_signed (unit_firms trades firms) (unit_trades trades) pool f (unit_firm trades f firm) (signer f firm is) w)))
-          (sym (part_is_bundle (unit_firms trades firms) (unit_trades trades) (d *ℤ e) pool f (unit_firm trades f firm)
-          (signer f firm is) w w_part) ∙ w_is);
-    }
-
-    -- where each choice takes the firm's unit offers, this bundle has each offered twin of the firm
-    z_takes : Blocks (unit_firms trades firms) (unit_trades trades) d outcome e offered → (u : ℕ) → u < unit_count trades
-        → has more u ≡ true → is_own trades f (trade_of trades u) ≡ true → has chosen_twins u ≡ true
-    z_takes blocks u below there mine =
-        let found = offered_are.found u (omega (arith, below, long)) there in
-        let of_firm : is_of (unit_trades trades) f found.1 ≡ true =
-        ap (λ (t : ℕ). unwrap_or (option_map (is_end f) (slice_get (unit_trades trades) t)) false) found.3
-        ∙ ap (λ (o : Option Ends). unwrap_or (option_map (is_end f) o) false)
-        (unit_at trades (unit_count trades) u below) ∙ mine in
-        let taken = blocks.chosen f (unit_firm trades f firm) part_of (signer f firm is).is part_choice found.0 found.1 found.2
-        of_firm in
-        let in_pool = offer_in_pool e d offered outcome found.0 found.1 found.2 in
-        let p_below = place_within firms trades fit f firm is u below mine in
-        let p_is = own_here firms trades fit f firm is u below mine in
-        let traded = traded_by pool part_of (own (unit_trades trades) f (place_of trades f u)) (length pool) found.0
-        (record { trade = found.1.trade; price = d *ℤ found.1.price })
-        (slice_get_within pool found.0 (record { trade = found.1.trade; price = d *ℤ found.1.price }) in_pool) taken in_pool
-        (found.3 ∙ sym p_is) in
-        let in_bundle = has-set_of (λ k. is_traded pool part_of (own (unit_trades trades) f k) (length pool)) m
-        (place_of trades f u) ∙ ap₂ (λ (a b : Bool). a && b) (lt-ltb (place_of trades f u) m p_below) traded in
-        ap (has chosen_twins) (sym p_is)
-        ∙ (and_parts (nat_lt (place_of trades f u) m) (has chosen_twins (own (unit_trades trades) f (place_of trades f u)))
-        (sym (has-set_of (λ k. has chosen_twins (own (unit_trades trades) f k)) m (place_of trades f u))
-        ∙ ap (λ (w : ℕ). has w (place_of trades f u)) (sym part_bundle_is) ∙ in_bundle)).1
-
-    -- so the counts have all units of each of the firm's offers
-    z_whole : Blocks (unit_firms trades firms) (unit_trades trades) d outcome e offered → (k : ℕ) (offer : UnitContract)
-        → slice_get offers k ≡ Some offer → HasEnd f (trade_at trades offer.trade)
-        → counts (length contracts + k) ≡ offer.units
-    z_whole blocks k offer at ends =
-        let k_below = slice_get_within offers k offer at in
-        let summed = length-append contracts offers in
-        let inside : length contracts + k < length both = omega (arith, k_below, summed) in
+  of_kinds : AreOfKinds trades split signed_kind count_prices all pool_price pool
+  of_kinds = record {
+    contracts_of = pool_are;
+    within = all_within;
+    signed_in = λ u below there.
+        let inside = kind_on trades both beside u below there in
+        let same = signed_kind_is trades both beside u inside in
         let sized = split_sized trades both (λ t. 0) in
-        let s_below : length contracts + k < length split = omega (arith, inside, sized) in
-        let same : contract_at both (length contracts + k) ≡ offer =
-        get_or-append-add contracts offers k (record { trade = 0; units = 0; price = pos 0 })
-        ∙ get_or_from_slice_get offers k offer (record { trade = 0; units = 0; price = pos 0 }) at in
-        sym (z_has (length contracts + k) s_below)
-        ∙ count-same (λ u. has chosen_twins u && length contracts + k == signed_kind u)
-        (λ u. length contracts + k == signed_kind u) (unit_count trades)
-        (λ u below. by u below (length contracts + k == signed_kind u) refl inside same)
-        ∙ (signed_kinds trades both beside).size (length contracts + k) s_below
-        ∙ ap (λ (t : UnitTrade). t.units) (split_signed trades both (λ t. 0) (length contracts + k) inside)
-        ∙ ap (λ (c : UnitContract). c.units) same
-      where
-        owned : HasEnd f (trade_at trades offer.trade) → is_own trades f offer.trade ≡ true
-        owned (inl sells) =
-            or_left ((trade_at trades offer.trade).seller == f) ((trade_at trades offer.trade).buyer == f)
-            (eq-eqb (trade_at trades offer.trade).seller f sells)
-        owned (inr buys) =
-            or_right ((trade_at trades offer.trade).seller == f) ((trade_at trades offer.trade).buyer == f)
-            (eq-eqb (trade_at trades offer.trade).buyer f buys)
+        omega (arith, inside, same, sized);
+    in_signed = λ u below inside. on_kind trades both beside u below (of_both u inside);
+    priced = λ u below inside.
+        pool_priced u below (of_both u inside) ∙ ap count_prices (sym (signed_kind_is trades both beside u (of_both u inside)));
+  }
+    where
+      of_both : (u : ℕ) → signed_kind u < length split → kind u < length both
+      of_both u inside = left_in trades both beside u (let sized = split_sized trades both (λ t. 0) in omega (arith, inside, sized))
 
-        by : (u : ℕ) → u < unit_count trades → (b : Bool) → (length contracts + k == signed_kind u) ≡ b
-            → length contracts + k < length both → contract_at both (length contracts + k) ≡ offer
-            → (has chosen_twins u && b) ≡ b
-        by u below false test inside same = none (has chosen_twins u)
-          where
-            none : (c : Bool) → (c && false) ≡ false
-            none true = refl
-            none false = refl
-        by u below true test inside same =
-            let place = eqb-true (length contracts + k) (signed_kind u) test in
-            let of_both = left_in trades both beside u (omega (arith, place, inside)) in
-            let kind_is = signed_kind_is trades both beside u of_both in
-            let in_all = on_kind trades both beside u below of_both in
-            let trade_is = split_trade both (length contracts + k) (trade_of trades u) (twins_before trades u) inside
-            (omega (arith, place, kind_is)) in
-            let mine = ap (is_own trades f) (sym trade_is ∙ ap (λ (c : UnitContract). c.trade) same) ∙ owned ends in
-            ap (λ (c : Bool). c && true)
-            (z_takes blocks u below (more_from u in_all (unsigned u below (omega (arith, place, kind_is)))) mine)
-          where
-            unsigned : (v : ℕ) → v < unit_count trades → length contracts ≤ kind v → has set v ≡ false
-            unsigned v v_below past = elim (cases_Bool (has set v)) [
-              | inr away ↦ away
-              | inl signed ↦
-                  let less = set_below v v_below signed in
-                  let front = split_front contracts offers (trade_of trades v) (twins_before trades v) less in
-                  let here = split_below contracts (trade_of trades v) (twins_before trades v) less in
-                  absurd (omega (arith, past, front, here))
-            ]
+  -- best counts have all units of each of the firm's offers, where each choice takes its unit offers
+  takes_all : (f : ℕ) (firm : CountFirm) → slice_get firms f ≡ Some firm → (counts : ℕ → ℕ) (value : ℤ)
+      → IsBestCount split (count_utility split (d *ℤ e) count_prices f
+      (record { worth = λ c. firm.worth (joined both c) })) counts value
+      → Blocks (unit_firms trades firms) (unit_trades trades) d outcome e offered → (k : ℕ) (offer : UnitContract)
+      → slice_get offers k ≡ Some offer → HasEnd f (trade_at trades offer.trade)
+      → counts (length contracts + k) ≡ offer.units
+  takes_all f firm is counts value best blocks k offer at ends =
+      let k_below = slice_get_within offers k offer at in
+      let summed = length-append contracts offers in
+      let inside : length contracts + k < length both = omega (arith, k_below, summed) in
+      let sized = split_sized trades both (λ t. 0) in
+      let same : contract_at both (length contracts + k) ≡ offer =
+      get_or-append-add contracts offers k (record { trade = 0; units = 0; price = pos 0 })
+      ∙ get_or_from_slice_get offers k offer (record { trade = 0; units = 0; price = pos 0 }) at in
+      all_taken firms trades fit f firm is (split_firms both firms) split (split_fit firms trades fit both beside (λ t. 0))
+      (record { worth = λ c. firm.worth (joined both c) }) (fellow_is firms trades fit both beside f firm is) signed_kind
+      (signed_kinds trades both beside) count_prices all pool_price pool of_kinds
+      (signed_worth_is firms trades fit both beside f firm is) (d *ℤ e) counts value best (length contracts + k)
+      (omega (arith, inside, sized)) (λ u below place. each u below place inside same)
+      ∙ ap (λ (t : UnitTrade). t.units) (split_signed trades both (λ t. 0) (length contracts + k) inside)
+      ∙ ap (λ (c : UnitContract). c.units) same
+    where
+      owned : HasEnd f (trade_at trades offer.trade) → is_own trades f offer.trade ≡ true
+      owned (inl sells) =
+          or_left ((trade_at trades offer.trade).seller == f) ((trade_at trades offer.trade).buyer == f)
+          (eq-eqb (trade_at trades offer.trade).seller f sells)
+      owned (inr buys) =
+          or_right ((trade_at trades offer.trade).seller == f) ((trade_at trades offer.trade).buyer == f)
+          (eq-eqb (trade_at trades offer.trade).buyer f buys)
+
+      unsigned : (u : ℕ) → u < unit_count trades → length contracts ≤ kind u → has set u ≡ false
+      unsigned u below past = elim (cases_Bool (has set u)) [
+        | inr away ↦ away
+        | inl there ↦
+            let less = set_below u below there in
+            let front = split_front contracts offers (trade_of trades u) (twins_before trades u) less in
+            let here = split_below contracts (trade_of trades u) (twins_before trades u) less in
+            absurd (omega (arith, past, front, here))
+      ]
+
+      -- a twin of the offer is offered, and so each choice takes it
+      each : (u : ℕ) → u < unit_count trades → signed_kind u ≡ length contracts + k
+          → length contracts + k < length both → contract_at both (length contracts + k) ≡ offer
+          → (is_own trades f (trade_of trades u) ≡ true)
+          × ((place : ℕ) × (contract : Contract) × (slice_get pool place ≡ Some contract) × (contract.trade ≡ u)
+          × ((x : ℕ) → IsChoice (unit_trades trades) (d *ℤ e) f (unit_firm trades f firm) pool x → has x place ≡ true))
+      each u below place inside same =
+          let of_both = left_in trades both beside u (omega (arith, place, inside)) in
+          let kind_is = signed_kind_is trades both beside u of_both in
+          let there = more_from u (on_kind trades both beside u below of_both)
+          (unsigned u below (omega (arith, place, kind_is))) in
+          let found = offered_are.found u (omega (arith, below, long)) there in
+          let trade_is = split_trade both (length contracts + k) (trade_of trades u) (twins_before trades u) inside
+          (omega (arith, place, kind_is)) in
+          let mine : is_own trades f (trade_of trades u) ≡ true =
+          ap (is_own trades f) (sym trade_is ∙ ap (λ (c : UnitContract). c.trade) same) ∙ owned ends in
+          let of_firm : is_of (unit_trades trades) f found.1 ≡ true =
+          ap (λ (t : ℕ). unwrap_or (option_map (is_end f) (slice_get (unit_trades trades) t)) false) found.3
+          ∙ ap (λ (o : Option Ends). unwrap_or (option_map (is_end f) o) false)
+          (unit_at trades (unit_count trades) u below) ∙ mine in (
+            mine,
+            (
+              found.0,
+              record { trade = found.1.trade; price = d *ℤ found.1.price },
+              offer_in_pool e d offered outcome found.0 found.1 found.2,
+              found.3,
+              λ x choice. blocks.chosen f (unit_firm trades f firm) x (signer f firm is).is choice found.0 found.1 found.2
+                  of_firm,
+            ),
+          )
 
   counts_block : ((k : ℕ) (offer : UnitContract) → slice_get offers k ≡ Some offer → 0 < offer.units)
       → Blocks (unit_firms trades firms) (unit_trades trades) d outcome e offered
@@ -698,7 +497,7 @@ module _ (firms : List CountFirm) (trades : List UnitTrade) (fit : FitByCounts f
     beside = beside;
     chosen = λ f fellow counts value at best k offer offer_is ends.
         let from = split_from both firms f fellow at in
-        z_whole f from.firm from.is counts value
+        takes_all f from.firm from.is counts value
         (subst (λ (one : CountFirm). IsBestCount split (count_utility split (d *ℤ e) count_prices f one) counts value)
         (sym from.same) best) blocks k offer offer_is ends;
   }

@@ -15,6 +15,13 @@ use Rattle.tn_unit_laws.specs.Units.{count_below, trade_of, unit_count}
 abbrev pub one : Bool → ℕ
 one b = if b then 1 else 0
 
+-- the order of what is compared doesn't matter
+pub eqb-turned : (a b : ℕ) → (a == b) ≡ (b == a)
+eqb-turned a b = elim (cases_eq a b) [
+  | inl same ↦ eq-eqb a b same ∙ sym (eq-eqb b a (sym same))
+  | inr other ↦ ne_eqb a b other ∙ sym (ne_eqb b a (λ e. other (sym e)))
+]
+
 pub count-same : (f g : ℕ → Bool) (n : ℕ) → ((k : ℕ) → k < n → f k ≡ g k) → count_below f n ≡ count_below g n
 unfolding count_below
 count-same f g zero same = refl
@@ -38,6 +45,23 @@ count-all f (suc n) all =
     let before : count_below f n ≡ n = count-all f n (λ k below. all k (omega (arith, below))) in
     let here : one (f n) ≡ 1 = ap one (all n (omega arith)) in
     omega (arith, before, here)
+
+-- of the numbers that pass a test, one is a given number where it passes
+pub count-at : (test : ℕ → Bool) (c n : ℕ) → c < n → count_below (λ u. c == u && test u) n ≡ one (test c)
+unfolding count_below
+count-at test c zero below = absurd (omega (arith, below))
+count-at test c (suc n) below = elim (cases_eq c n) [
+  | inl last ↦
+      let before = count-none (λ u. c == u && test u) n (λ u inside.
+      ap (λ (b : Bool). b && test u) (ne_eqb c u (λ e. omega (arith, e, inside, last)))) in
+      let here : one (c == n && test n) ≡ one (test c) =
+      ap (λ (b : Bool). one (b && test n)) (eq-eqb c n last) ∙ ap (λ (u : ℕ). one (test u)) (sym last) in
+      omega (arith, before, here)
+  | inr other ↦
+      let before = count-at test c n (omega (arith, below, other)) in
+      let here : one (c == n && test n) ≡ 0 = ap (λ (b : Bool). one (b && test n)) (ne_eqb c n other) in
+      omega (arith, before, here)
+]
 
 -- where one test passes, another does
 pub count-most : (f g : ℕ → Bool) (n : ℕ) → ((k : ℕ) → k < n → f k ≡ true → g k ≡ true)

@@ -16,5 +16,9 @@ pub mod ExchangeLemmas
 pub mod SplitLemmas
 pub mod UnitContractLemmas
 pub mod OutcomeLemmas
+pub mod TogetherLemmas
+pub mod FreshLemmas
+pub mod SingleLemmas
 pub mod BlockLemmas
+pub mod BlockedLemmas
 pub mod CompletionLemmas

@@ -1,11 +1,15 @@
 -- The firms of a market fit together by counts: what each has depends on the units of its own trades alone.
-use Rattle.std.proofs.Common.{◌≡◌, ℕ, ◌<◌, Bool, true, false, ◌==◌, if◌then◌else◌, List, [], ◌∷◌, length, Option, Some, refl, sym, ap, ap₂, ◌∙◌, subst, ℤ, pos, ◌+ℤ◌, ◌-ℤ◌, ◌*ℤ◌}
-use Rattle.std.proofs.lemmas.Bool.{eqb-true}
+-- And they can have nothing.
+use Rattle.std.proofs.Common.{◌≡◌, ℕ, suc, ◌<◌, ◌≤◌, Bool, true, false, ◌==◌, if◌then◌else◌, List, [], ◌∷◌, length, slice_get, Option, Some, None, refl, sym, ap, ap₂, ◌∙◌, subst, arith, ℤ, pos, ◌+ℤ◌, ◌-ℤ◌, ◌*ℤ◌}
+use Rattle.std.proofs.lemmas.Bool.{eqb-true, le-leb}
+use Rattle.std.proofs.lemmas.Int.{ints}
 use Rattle.std.proofs.Math.IntN.{zero-*ℤ}
 use Rattle.tn_base.specs.Options.{both}
-use Rattle.tn_links.proofs.TotalLemmas.{total-same}
-use Rattle.tn_counts.specs.Counts.{trade_at}
-use Rattle.tn_counts.specs.Laminar.{added_at, amount_sum, amount_to, amounts_at, bought_by, firm_of, holds, set_number, set_sum}
+use Rattle.tn_links.specs.Links.{rise, room}
+use Rattle.tn_links.proofs.TotalLemmas.{total-same, total-zero}
+use Rattle.tn_counts.specs.Counts.{CountFirm, trade_at}
+use Rattle.tn_counts.specs.Laminar.{added_at, amount_sum, amount_to, amounts_at, bought_by, firm_of, firms_of, holds, net_count, set_number, set_sum}
+use Rattle.tn_counts.specs.Markets.{IsUnitMarket}
 use Rattle.tn_counts.specs.declared.market.UnitMarket.{UnitMarket}
 use Rattle.tn_counts.specs.declared.set.CountSet.{CountSet}
 use Rattle.tn_counts.specs.declared.trade.UnitAmounts.{UnitAmounts}
@@ -78,3 +82,54 @@ markets_fit market is = record {
       let found = firm_at market f firm at in
       subst (DependsOnOwn market.trades.items f) (sym found.1) (depends_on_own market f);
 }
+
+-- ---- firms of a market can have nothing
+
+-- no units are none within a set
+none_within : (trades : List UnitTrade) (set : CountSet) → net_count trades set (λ t. 0) ≡ pos 0
+none_within trades set =
+    total-zero (λ t. if holds set t then bought_by set.firm (trade_at trades t) (pos 0) else pos 0) (length trades)
+    (λ t below. by (holds set t) (set.firm == (trade_at trades t).buyer) (set.firm == (trade_at trades t).seller))
+  where
+    by : (a b c : Bool) → (if a then (if b then pos 0 else pos 0) -ℤ (if c then pos 0 else pos 0) else pos 0) ≡ pos 0
+    by true true true = refl
+    by true true false = refl
+    by true false true = refl
+    by true false false = refl
+    by false b c = refl
+
+-- so each set has a number there
+sets_at_none : (trades : List UnitTrade) (f : ℕ) (sets : List CountSet)
+    → ((i : ℕ) (set : CountSet) → slice_get sets i ≡ Some set → set.back ≤ room set.steps.items)
+    → (z : ℤ) × (set_sum trades f (λ t. 0) sets ≡ Some z)
+sets_at_none trades f [] around = (pos 0, refl)
+sets_at_none trades f (set ∷ sets) around =
+    let rest = sets_at_none trades f sets (λ i one at. around (suc i) one at) in
+    by (f == set.firm) rest
+  where
+    number : ℤ
+    number = set.constant +ℤ (rise set.steps.items set.back -ℤ rise set.steps.items set.back)
+
+    number_is : set_number trades set (λ t. 0) ≡ Some number
+    number_is =
+        ap (added_at set) (ap (λ (z : ℤ). z +ℤ pos set.back) (none_within trades set) ∙ start)
+        ∙ ap (λ (b : Bool). if b then Some number else None) (le-leb set.back (room set.steps.items) (around 0 set refl))
+      where
+        start : pos 0 +ℤ pos set.back ≡ pos set.back
+        start = omega (arith, ints)
+
+    by : (b : Bool) → (z : ℤ) × (set_sum trades f (λ t. 0) sets ≡ Some z)
+        → (z : ℤ) × ((if b then both (set_number trades set (λ t. 0)) (set_sum trades f (λ t. 0) sets)
+        else set_sum trades f (λ t. 0) sets) ≡ Some z)
+    by true rest = (number +ℤ rest.0, ap₂ both number_is rest.1)
+    by false rest = rest
+
+pub markets_have_nothing : (market : UnitMarket) → IsUnitMarket market → (f : ℕ) (firm : CountFirm)
+    → slice_get (firms_of market) f ≡ Some firm → (worth : ℤ) × (firm.worth (λ t. 0) ≡ Some worth)
+markets_have_nothing market is f firm at =
+    let found = firm_at market f firm at in
+    let sum = sets_at_none market.trades.items f market.sets.items (λ i set there. (is.each i set there).around) in
+    subst (λ (one : CountFirm). (worth : ℤ) × (one.worth (λ t. 0) ≡ Some worth)) (sym found.1) (
+      amount_sum market.trades.items market.amounts.items f (λ t. 0) +ℤ sum.0,
+      ap (both (Some (amount_sum market.trades.items market.amounts.items f (λ t. 0)))) sum.1,
+    )

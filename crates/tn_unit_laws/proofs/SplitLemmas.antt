@@ -11,7 +11,7 @@ use Rattle.tn_counts.specs.declared.contract.UnitContract.{UnitContract}
 use Rattle.tn_counts.specs.declared.trade.UnitTrade.{UnitTrade}
 use Rattle.tn_unit_laws.specs.Outcomes.{split_of}
 use Rattle.tn_unit_laws.specs.Units.{count_below}
-use Rattle.tn_unit_laws.proofs.CountLemmas.{count-plus, count-same, one}
+use Rattle.tn_unit_laws.proofs.CountLemmas.{count-plus, count-same, eqb-turned, one}
 
 -- ---- a contract and those after it
 
@@ -545,3 +545,95 @@ module _ (kind : ℕ → ℕ) (n : ℕ) where
       next s = count-same (λ u. test u && suc s == split_of (contract ∷ contracts) (kind u) (rank u))
           (λ u. left test rank contract u && s == split_of contracts (kind u) (later test rank contract u)) n
           (λ u inside. there test rank contract contracts s u)
+
+-- ---- and so do counts of numbers by any contracts that they are of
+
+joined-plus : (contracts : List UnitContract) (counts others : ℕ → ℕ) (t : ℕ)
+    → joined contracts (λ s. counts s + others s) t ≡ joined contracts counts t + joined contracts others t
+joined-plus [] counts others t = omega arith
+joined-plus (contract ∷ contracts) counts others t =
+    let sum = joined-cons contract contracts (λ s. counts s + others s) t in
+    let first = joined-cons contract contracts counts t in
+    let second = joined-cons contract contracts others t in
+    let rest = joined-plus contracts (λ k. counts (suc k)) (λ k. others (suc k)) t in
+    let here = by (contract.trade == t) in
+    omega (arith, sum, first, second, rest, here)
+  where
+    by : (b : Bool) → (if b then counts 0 + others 0 else 0)
+        ≡ (if b then counts 0 else 0) + (if b then others 0 else 0)
+    by true = refl
+    by false = refl
+
+joined-none : (contracts : List UnitContract) (t : ℕ) → joined contracts (λ s. 0) t ≡ 0
+joined-none [] t = omega arith
+joined-none (contract ∷ contracts) t =
+    let sum = joined-cons contract contracts (λ s. 0) t in
+    let rest = joined-none contracts t in
+    let here = by (contract.trade == t) 0 in
+    omega (arith, sum, rest, here)
+  where
+    by : (b : Bool) (n : ℕ) → (if b then n else n) ≡ n
+    by true n = refl
+    by false n = refl
+
+-- one of a contract is one of its trade
+joined-at : (contracts : List UnitContract) (k t : ℕ) → k < length contracts
+    → joined contracts (λ s. one (s == k)) t ≡ one (t == (contract_at contracts k).trade)
+joined-at [] k t below = absurd (omega (arith, below))
+joined-at (contract ∷ contracts) zero t below =
+    let sum = joined-cons contract contracts (λ s. one (s == 0)) t in
+    let rest = joined_same contracts (λ s. one (suc s == 0)) (λ s. 0) t (none (length contracts + t)) (λ k inside same. none k)
+    ∙ joined-none contracts t in
+    let here = by (contract.trade == t) (eqb-turned contract.trade t) in
+    omega (arith, sum, rest, here)
+  where
+    none : (s : ℕ) → one (suc s == 0) ≡ 0
+    none s = ap one (ne_eqb (suc s) 0 (λ e. omega (arith, e)))
+
+    by : (b : Bool) → b ≡ (t == contract.trade) → (if b then one (0 == 0) else 0) ≡ one (t == contract.trade)
+    by true same = ap one same
+    by false same = ap one same
+joined-at (contract ∷ contracts) (suc k) t below =
+    let sum = joined-cons contract contracts (λ s. one (s == suc k)) t in
+    let rest = joined_same contracts (λ s. one (suc s == suc k)) (λ s. one (s == k)) t (next (length contracts + t))
+    (λ j inside same. next j) ∙ joined-at contracts k t (omega (arith, below)) in
+    let here = by (contract.trade == t) in
+    omega (arith, sum, rest, here)
+  where
+    next : (s : ℕ) → one (suc s == suc k) ≡ one (s == k)
+    next s = elim (cases_eq s k) [
+      | inl same ↦ ap one (eq-eqb (suc s) (suc k) (omega (arith, same))) ∙ sym (ap one (eq-eqb s k same))
+      | inr other ↦ ap one (ne_eqb (suc s) (suc k) (λ e. other (omega (arith, e)))) ∙ sym (ap one (ne_eqb s k other))
+    ]
+
+    by : (b : Bool) → (if b then one (0 == suc k) else 0) ≡ 0
+    by true = ap one (ne_eqb 0 (suc k) (λ e. omega (arith, e)))
+    by false = refl
+
+-- where numbers are of contracts, the counts of these join to how many are of each trade
+pub joined_of : (contracts : List UnitContract) (kind : ℕ → ℕ) (test : ℕ → Bool) (n t : ℕ)
+    → ((k : ℕ) → k < n → test k ≡ true → kind k < length contracts)
+    → joined contracts (λ s. count_below (λ k. test k && s == kind k) n) t
+    ≡ count_below (λ k. test k && t == (contract_at contracts (kind k)).trade) n
+unfolding count_below
+joined_of contracts kind test zero t inside = joined-none contracts t
+joined_of contracts kind test (suc n) t inside =
+    let sum = joined-plus contracts (λ s. count_below (λ k. test k && s == kind k) n) (λ s. one (test n && s == kind n)) t in
+    let before = joined_of contracts kind test n t (λ k below. inside k (omega (arith, below))) in
+    let here = by (test n) (inside n (omega arith)) in
+    omega (arith, sum, before, here)
+  where
+    by : (b : Bool) → (b ≡ true → kind n < length contracts)
+        → joined contracts (λ s. one (b && s == kind n)) t ≡ one (b && t == (contract_at contracts (kind n)).trade)
+    by true below = joined-at contracts (kind n) t (below refl)
+    by false below = joined-none contracts t
+
+-- all units of all contracts are those that are signed
+pub joined_signed : (contracts : List UnitContract) (t : ℕ)
+    → joined contracts (λ k. (contract_at contracts k).units) t ≡ signed_units contracts t
+joined_signed [] t = refl
+joined_signed (contract ∷ contracts) t =
+    let sum = joined-cons contract contracts (λ k. (contract_at (contract ∷ contracts) k).units) t in
+    let rest = joined_signed contracts t in
+    let all = signed-cons contract contracts t in
+    omega (arith, sum, rest, all)

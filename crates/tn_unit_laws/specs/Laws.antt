@@ -7,6 +7,7 @@ use Rattle.tn_links.specs.Flows.{IsKeptFlow}
 use Rattle.tn_links.specs.Totals.{total}
 use Rattle.tn_model.specs.Choices.{Blocks, IsFeasible, IsIndividuallyRational, IsStable, contracts_of}
 use Rattle.tn_model.specs.Network.{IsNetwork}
+use Rattle.tn_model.specs.declared.contract.Contract.{Contract}
 use Rattle.tn_market.specs.Equilibrium.{IsEfficient, IsEquilibrium, surplus_of}
 use Rattle.tn_market.specs.Signed.{Completes}
 use Rattle.tn_network_laws.specs.Laws.{MeetExchange}
@@ -21,7 +22,7 @@ use Rattle.tn_counts.specs.declared.contract.UnitContract.{UnitContract}
 use Rattle.tn_counts.specs.declared.market.UnitMarket.{UnitMarket}
 use Rattle.tn_counts.specs.declared.trade.UnitTrade.{UnitTrade}
 use Rattle.tn_unit_laws.specs.Exchange.{ExchangesByCounts}
-use Rattle.tn_unit_laws.specs.Outcomes.{split_of, split_price, unit_contracts, unit_offers}
+use Rattle.tn_unit_laws.specs.Outcomes.{CanHaveSome, signed_twins, single_offers, split_of, split_price, unit_contracts, unit_offers}
 use Rattle.tn_unit_laws.specs.Units.{count_below, DependsOnOwn, HaveTwoEnds, HasCounts, first_units, price_of_unit, trade_of, unit_count, twins_before, unit_firm, unit_firms, unit_trades, units_on}
 
 -- firms and trades that fit together by counts make a network of unit firms and unit trades
@@ -259,6 +260,41 @@ pub record BlockedByCounts : Type 0 where
       → FitByCounts firms trades
       → IsStable (unit_firms trades firms) (unit_trades trades) d (unit_contracts trades contracts)
       → IsStableByCounts firms trades d contracts
+
+-- where contracts of unit trades, over any denominator, block the unit contracts of an outcome, none of them is on a signed
+-- twin if each firm can have some of what is signed (one that can't may have no choice, and so takes whatever is offered);
+-- and where none is, they are offers by counts of one unit each that block the outcome. Twins may be at different prices
+pub record BlockedByUnits : Type 0 where
+  pub unsigned : (firms : List CountFirm) (trades : List UnitTrade) (d : ℤ) (contracts : List UnitContract) (e : ℤ)
+      (offers : List Contract) → FitByCounts firms trades → AreUnitContracts trades contracts
+      → CanHaveSome firms contracts
+      → Blocks (unit_firms trades firms) (unit_trades trades) d (unit_contracts trades contracts) e offers
+      → (k : ℕ) (offer : Contract) → slice_get offers k ≡ Some offer
+      → has (signed_twins trades contracts) offer.trade ≡ false
+  pub by_counts : (firms : List CountFirm) (trades : List UnitTrade) (d : ℤ) (contracts : List UnitContract) (e : ℤ)
+      (offers : List Contract) → FitByCounts firms trades → AreUnitContracts trades contracts
+      → ((k : ℕ) (offer : Contract) → slice_get offers k ≡ Some offer
+      → has (signed_twins trades contracts) offer.trade ≡ false)
+      → Blocks (unit_firms trades firms) (unit_trades trades) d (unit_contracts trades contracts) e offers
+      → BlocksByCounts firms trades d contracts e (single_offers trades offers)
+
+-- an outcome is stable by counts exactly where its unit contracts are stable, if each firm can have some of what is signed,
+-- as in a market of laminar firms; and any outcome is rational and stable exactly where its unit contracts are
+pub record StableByCounts : Type 0 where
+  pub stable : (firms : List CountFirm) (trades : List UnitTrade) (d : ℤ) (contracts : List UnitContract)
+      → FitByCounts firms trades → AreUnitContracts trades contracts → CanHaveSome firms contracts
+      → IsStableByCounts firms trades d contracts
+      ↔ IsStable (unit_firms trades firms) (unit_trades trades) d (unit_contracts trades contracts)
+  pub of_market : (market : UnitMarket) (d : ℤ) (contracts : List UnitContract) → IsUnitMarket market
+      → AreUnitContracts market.trades.items contracts
+      → IsStableByCounts (firms_of market) market.trades.items d contracts
+      ↔ IsStable (unit_firms market.trades.items (firms_of market)) (unit_trades market.trades.items) d
+      (unit_contracts market.trades.items contracts)
+  pub rational : (firms : List CountFirm) (trades : List UnitTrade) (d : ℤ) (contracts : List UnitContract)
+      → FitByCounts firms trades → AreUnitContracts trades contracts
+      → (IsRationalByCounts firms trades d contracts × IsStableByCounts firms trades d contracts)
+      ↔ (IsIndividuallyRational (unit_firms trades firms) (unit_trades trades) d (unit_contracts trades contracts)
+      × IsStable (unit_firms trades firms) (unit_trades trades) d (unit_contracts trades contracts))
 
 -- no contracts for single units, over any denominator, block an outcome that some prices complete, and no offers by counts
 pub record CompletedByCountsAreStable : Type 0 where

@@ -1,9 +1,10 @@
 -- Outcomes by counts over single units: each contract of several units is as many contracts of one unit, on the first twins
 -- of its trade that the contracts before it leave, each at its price.
-use Rattle.std.specs.Prelude.{ℕ, suc, ◌-◌, ℤ, pos, List, [], ◌∷◌, ◌++◌, ◌==◌, ◌&&◌, nat_lt, if◌then◌else◌}
+use Rattle.std.specs.Prelude.{◌≡◌, ℕ, suc, ◌-◌, ◌≤◌, ℤ, pos, List, [], ◌∷◌, ◌++◌, map, slice_get, ◌==◌, ◌&&◌, nat_lt, if◌then◌else◌, Some}
 use Rattle.tn_base.specs.Sets.{minus}
 use Rattle.tn_model.specs.Choices.{contracts_of}
 use Rattle.tn_model.specs.declared.contract.Contract.{Contract}
+use Rattle.tn_counts.specs.Counts.{CountFirm}
 use Rattle.tn_counts.specs.Outcomes.{prices_beside, signed_units}
 use Rattle.tn_counts.specs.declared.contract.UnitContract.{UnitContract}
 use Rattle.tn_counts.specs.declared.trade.UnitTrade.{UnitTrade}
@@ -40,3 +41,14 @@ abbrev pub unit_offers : List UnitTrade → List UnitContract → List UnitContr
 unit_offers trades contracts offers =
     contracts_of (offered_twins trades contracts offers) (split_price trades (contracts ++ offers) (λ t. pos 0))
     (unit_count trades)
+
+-- offers on unit trades, each as an offer by counts of one unit
+abbrev pub single_offers : List UnitTrade → List Contract → List UnitContract
+single_offers trades offers =
+    map (λ offer. record { trade = trade_of trades offer.trade; units = 1; price = offer.price }) offers
+
+-- each firm can have some of what is signed, or nothing
+abbrev pub CanHaveSome : List CountFirm → List UnitContract → Type 0
+CanHaveSome firms contracts = (f : ℕ) (firm : CountFirm) → slice_get firms f ≡ Some firm
+    → (counts : ℕ → ℕ) × ((t : ℕ) → counts t ≤ signed_units contracts t)
+    × (worth : ℤ) × (firm.worth counts ≡ Some worth)

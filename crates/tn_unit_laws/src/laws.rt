@@ -1,7 +1,7 @@
 //! Laws of the unit network. Each is the contract of a function with an empty body: calling it proves nothing more, and
 //! costs nothing.
 
-ghost use Rattle.tn_unit_laws.specs.Laws.{BlockedByCounts, CompletableByCounts, CompletedByCounts, CompletedByCountsAreStable, CountsAreOfSets, EfficientByCounts, EquilibriaByCountsAreEquilibria, EquilibriaByCountsAreStable, ExchangeByCounts, LossesBoundUnitPrices, MarketsFitByCounts, MarketsMeetExchange, MoreSurplusBarsUnitPrices, NegativeCyclesBarUnitPrices, OnePriceIsEnough, RationalByCounts, TwinsCostTheSame, UnitContractsAreOfContracts, UnitsMakeNetworks};
+ghost use Rattle.tn_unit_laws.specs.Laws.{BlockedByCounts, BlockedByUnits, CompletableByCounts, CompletedByCounts, CompletedByCountsAreStable, CountsAreOfSets, EfficientByCounts, EquilibriaByCountsAreEquilibria, EquilibriaByCountsAreStable, ExchangeByCounts, LossesBoundUnitPrices, MarketsFitByCounts, MarketsMeetExchange, MoreSurplusBarsUnitPrices, NegativeCyclesBarUnitPrices, OnePriceIsEnough, RationalByCounts, StableByCounts, TwinsCostTheSame, UnitContractsAreOfContracts, UnitsMakeNetworks};
 
 /// Firms by counts, and trades of many units between two different ones of them, make a network in which each unit is a
 /// trade of its own: each firm has a position for each unit of its trades.
@@ -111,6 +111,20 @@ pub fn completable_by_counts()
 /// is stable by counts.
 pub fn blocked_by_counts()
     ensures { BlockedByCounts }
+{}
+
+/// Contracts of single units, over any denominator, that block the unit contracts of an outcome are offers by counts of one
+/// unit each that block the outcome, where they are on unsigned twins; and so they are if each firm can have some of what is
+/// signed. Twins may be at different prices.
+pub fn blocked_by_units()
+    ensures { BlockedByUnits }
+{}
+
+/// An outcome by counts is stable exactly where its unit contracts are, in the words of networks without units, if each firm
+/// can have some of what is signed, as laminar firms can; and any outcome is rational and stable exactly where its unit
+/// contracts are individually rational and stable.
+pub fn stable_by_counts()
+    ensures { StableByCounts }
 {}
 
 /// An outcome by counts that some prices complete is stable: no contracts for single units, over any denominator, block it,
