@@ -6,7 +6,6 @@ pub mod PaymentLemmas
 pub mod KindLemmas
 pub mod EquilibriumLemmas
 pub mod MarketLemmas
-pub mod StableLemmas
 pub mod TwinLemmas
 pub mod AvoidLemmas
 pub mod BoundLemmas
@@ -21,4 +20,6 @@ pub mod FreshLemmas
 pub mod SingleLemmas
 pub mod BlockLemmas
 pub mod BlockedLemmas
+pub mod WholeLemmas
+pub mod StableLemmas
 pub mod CompletionLemmas

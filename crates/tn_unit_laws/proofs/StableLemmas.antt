@@ -16,6 +16,7 @@ use Rattle.tn_unit_laws.specs.Units.{first_units, price_of_unit, unit_firms, uni
 use Rattle.tn_unit_laws.proofs.BundleLemmas.{fits_network}
 use Rattle.tn_unit_laws.proofs.EquilibriumLemmas.{equilibria_are_equilibria, first_have, same_surplus, surplus_of_counts}
 use Rattle.tn_unit_laws.proofs.MarketLemmas.{markets_fit}
+use Rattle.tn_unit_laws.proofs.WholeLemmas.{whole_is_stable}
 
 pub equilibria_stable : EquilibriaByCountsAreStable
 equilibria_stable firms trades scale counts prices fit least equal =
@@ -29,6 +30,7 @@ equilibria_stable firms trades scale counts prices fit least equal =
           (price_of_unit trades prices) network least there;
       stable = equilibrium_is_stable (unit_firms trades firms) (unit_trades trades) scale (first_units trades counts)
           (price_of_unit trades prices) network there;
+      by_counts = whole_is_stable firms trades fit scale counts prices within equal;
     }
 
 pub more_bars : MoreSurplusBarsUnitPrices

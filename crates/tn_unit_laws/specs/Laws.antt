@@ -22,7 +22,7 @@ use Rattle.tn_counts.specs.declared.contract.UnitContract.{UnitContract}
 use Rattle.tn_counts.specs.declared.market.UnitMarket.{UnitMarket}
 use Rattle.tn_counts.specs.declared.trade.UnitTrade.{UnitTrade}
 use Rattle.tn_unit_laws.specs.Exchange.{ExchangesByCounts}
-use Rattle.tn_unit_laws.specs.Outcomes.{CanHaveSome, signed_twins, single_offers, split_of, split_price, unit_contracts, unit_offers}
+use Rattle.tn_unit_laws.specs.Outcomes.{CanHaveSome, outcome_of, signed_twins, single_offers, split_of, split_price, unit_contracts, unit_offers}
 use Rattle.tn_unit_laws.specs.Units.{count_below, DependsOnOwn, HaveTwoEnds, HasCounts, first_units, price_of_unit, trade_of, unit_count, twins_before, unit_firm, unit_firms, unit_trades, units_on}
 
 -- firms and trades that fit together by counts make a network of unit firms and unit trades
@@ -69,7 +69,8 @@ abbrev pub MarketsFitByCounts : Type 0
 MarketsFitByCounts = (market : UnitMarket) → IsUnitMarket market → FitByCounts (firms_of market) market.trades.items
 
 -- the first so many twins of each trade are an equilibrium of the unit network at one price for twins, no set of its
--- trades has more surplus, and no contracts, over any denominator, block its outcome
+-- trades has more surplus, and no contracts, over any denominator, block its outcome; and no offers by counts block the
+-- outcome of the counts
 pub record AreStableUnits (firms : List CountFirm) (trades : List UnitTrade) (scale : ℤ) (counts : ℕ → ℕ)
     (prices : ℕ → ℤ) : Type 0 where
   pub equilibrium : IsEquilibrium (unit_firms trades firms) (unit_trades trades) scale (first_units trades counts)
@@ -77,6 +78,7 @@ pub record AreStableUnits (firms : List CountFirm) (trades : List UnitTrade) (sc
   pub efficient : IsEfficient (unit_firms trades firms) (unit_trades trades) (first_units trades counts)
   pub stable : IsStable (unit_firms trades firms) (unit_trades trades) scale
       (contracts_of (first_units trades counts) (price_of_unit trades prices) (length (unit_trades trades)))
+  pub by_counts : IsStableByCounts firms trades scale (outcome_of trades counts prices)
 
 -- an equilibrium by counts, at any scale of at least 1, is one of the unit network, efficient and stable there
 abbrev pub EquilibriaByCountsAreStable : Type 0

@@ -1,6 +1,7 @@
 -- Outcomes by counts over single units: each contract of several units is as many contracts of one unit, on the first twins
 -- of its trade that the contracts before it leave, each at its price.
-use Rattle.std.specs.Prelude.{◌≡◌, ℕ, suc, ◌-◌, ◌≤◌, ℤ, pos, List, [], ◌∷◌, ◌++◌, map, slice_get, ◌==◌, ◌&&◌, nat_lt, if◌then◌else◌, Some}
+use Rattle.std.specs.Prelude.{◌≡◌, ℕ, suc, ◌-◌, ◌≤◌, ℤ, pos, List, [], ◌∷◌, ◌++◌, length, map, slice_get, ◌==◌, ◌&&◌, nat_lt, if◌then◌else◌, Some}
+use Rattle.std.specs.List.{range_with_len}
 use Rattle.tn_base.specs.Sets.{minus}
 use Rattle.tn_model.specs.Choices.{contracts_of}
 use Rattle.tn_model.specs.declared.contract.Contract.{Contract}
@@ -41,6 +42,11 @@ abbrev pub unit_offers : List UnitTrade → List UnitContract → List UnitContr
 unit_offers trades contracts offers =
     contracts_of (offered_twins trades contracts offers) (split_price trades (contracts ++ offers) (λ t. pos 0))
     (unit_count trades)
+
+-- the outcome of counts at prices: for each trade a contract of its units at its price, of none where none go
+abbrev pub outcome_of : List UnitTrade → (ℕ → ℕ) → (ℕ → ℤ) → List UnitContract
+outcome_of trades counts prices =
+    map (λ t. record { trade = t; units = counts t; price = prices t }) (range_with_len 0 (length trades))
 
 -- offers on unit trades, each as an offer by counts of one unit
 abbrev pub single_offers : List UnitTrade → List Contract → List UnitContract

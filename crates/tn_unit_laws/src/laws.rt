@@ -34,7 +34,7 @@ pub fn markets_fit_by_counts()
 
 /// An equilibrium by counts is efficient and stable in the unit network, in the words of networks without units: no set
 /// of unit trades has more surplus, and no contracts, over any denominator, block it (Hatfield, Kominers, Nichifor,
-/// Ostrovsky and Westkamp, 2013).
+/// Ostrovsky and Westkamp, 2013). So it is stable by counts: no offers by counts block its outcome.
 pub fn equilibria_by_counts_are_stable()
     ensures { EquilibriaByCountsAreStable }
 {}

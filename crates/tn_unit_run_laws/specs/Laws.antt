@@ -40,7 +40,8 @@ abbrev pub DocumentsMakeUnitNetworks : Type 0
 DocumentsMakeUnitNetworks = (bytes : List ℕ) (doc : UnitDocument) → ReadsUnits bytes doc
     → MakesUnitNetwork (written_firms doc) doc.head.trades
 
--- what `solve` answers, and what `check` calls an equilibrium, is one of the unit network, efficient and stable there
+-- what `solve` and `support` answer, and what `check` calls an equilibrium, is one of the unit network, efficient and stable
+-- there, and stable by counts
 pub record AnswersAreStableUnits : Type 0 where
   pub solved : (bytes : List ℕ) (doc : UnitDocument) (counts : List ℕ) (prices : List ℤ) (surplus : ℤ) (ends : List Ends)
       → ReadsUnits bytes doc → SolvesByCounts doc (SolvedByCounts counts prices surplus ends)

@@ -11,7 +11,7 @@ pub fn documents_make_unit_networks()
 
 /// The counts and prices that `solve` and `support` answer, and those that `check` calls an equilibrium, are one of the
 /// unit network: the first so many twins of each trade, at one price for twins, are an equilibrium there, no set of
-/// unit trades has more surplus, and no contracts, over any denominator, block it.
+/// unit trades has more surplus, and no contracts, over any denominator, block it; nor do offers by counts.
 pub fn answers_are_stable_units()
     ensures { AnswersAreStableUnits }
 {}
