@@ -24,7 +24,7 @@ enum Stop {
     NoText,
     #[error("line {0}: {1}")]
     Refused(usize, Fault),
-    #[error("more than 16,385 nodes, 16,777,216 units over an arc or a cost of 200,000,000,000 aren't served")]
+    #[error("more than 16,385 nodes, 16,777,216 units over an arc or a cost of 2,000,000,000,000,000 aren't served")]
     NotServed,
 }
 

@@ -9,6 +9,7 @@ use Rattle.tn_links.specs.declared.link.Step.{Step}
 use Rattle.tn_links.specs.Links.{AreFalling, AreSlight, IsLink, joins, room}
 use Rattle.tn_links.specs.LotLemmas.{HasEnds, ends_of}
 use Rattle.tn_links.specs.Widths.{most_each, most_units}
+use Rattle.tn_counts.specs.Widths.{most_wide_amount}
 use Rattle.tn_counts.specs.Counts.{trade_at}
 use Rattle.tn_counts.specs.Laminar.{amounts_at}
 use Rattle.tn_counts.specs.Laws.{LinksArePlain}
@@ -118,6 +119,10 @@ even_slight units each small zero step at =
     subst (λ (s : Step). IsAtMost s.each most_each) (same_Some (record { units = units; each = each }) step at) small
 even_slight units each small (suc i) step at = absurd (none-some step at)
 
+-- links take what markets have
+taken : (z : ℤ) → IsAtMost z most_wide_amount → IsAtMost z most_each
+taken z small = record { low = omega (arith, ints, small.low); high = omega (arith, ints, small.high) }
+
 -- where the node above a set is
 pub above_within : (market : UnitMarket) → IsWideMarket market → (i : ℕ) (set : CountSet)
     → slice_get market.sets.items i ≡ Some set
@@ -164,7 +169,7 @@ shapes_are market pins is are = record {
         back_within = own.around;
         few_units = let few = own.few in omega (arith, few);
         falling = own.concave;
-        slight = own.small;
+        slight = λ k step there. taken step.each (own.small k step there);
       };
   roots = λ f below. record {
     tail_inside = omega (arith, below);
@@ -225,8 +230,10 @@ shapes_are market pins is are = record {
     amounts_of t below =
         let sized = is.as_many in
         let small = is.small t (amounts_at market.amounts.items t)
-        (slice_get-get_or market.amounts.items t (record { seller = pos 0; buyer = pos 0 }) (omega (arith, below, sized))) in
-        (small.seller, small.buyer)
+        (slice_get-get_or market.amounts.items t (record { seller = pos 0; buyer = pos 0 }) (omega (arith, below, sized))) in (
+          taken (amounts_at market.amounts.items t).seller small.seller,
+          taken (amounts_at market.amounts.items t).buyer small.buyer,
+        )
 
 -- ---- no two between the same two nodes
 

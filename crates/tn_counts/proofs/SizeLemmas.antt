@@ -22,7 +22,7 @@ use Rattle.tn_counts.proofs.SurplusLemmas.{flow_of}
 use Rattle.tn_counts.proofs.WideLemmas.{wide_market}
 
 -- one step adds what it adds
-even_at_most : (limit units : ℕ) (each : ℤ) → IsAtMost each limit → AddAtMost limit (even units each)
+pub even_at_most : (limit units : ℕ) (each : ℤ) → IsAtMost each limit → AddAtMost limit (even units each)
 even_at_most limit units each small zero step at =
     subst (λ (s : Step). IsAtMost s.each limit) (same_Some (record { units = units; each = each }) step at) small
 even_at_most limit units each small (suc i) step at = absurd (none-some step at)

@@ -2,12 +2,11 @@
 use Rattle.std.proofs.Common.{arith, ℤ}
 use Rattle.std.proofs.lemmas.Int.{ints}
 use Rattle.tn_base.specs.Arcs.{IsAtMost}
-use Rattle.tn_links.specs.Widths.{most_each}
 use Rattle.tn_counts.specs.Markets.{IsUnitMarket, IsWideMarket}
-use Rattle.tn_counts.specs.Widths.{most_unit_amount}
+use Rattle.tn_counts.specs.Widths.{most_unit_amount, most_wide_amount}
 use Rattle.tn_counts.specs.declared.market.UnitMarket.{UnitMarket}
 
-wider : (z : ℤ) → IsAtMost z most_unit_amount → IsAtMost z most_each
+wider : (z : ℤ) → IsAtMost z most_unit_amount → IsAtMost z most_wide_amount
 wider z small = record { low = omega (arith, ints, small.low); high = omega (arith, ints, small.high) }
 
 pub wide_market : (market : UnitMarket) → IsUnitMarket market → IsWideMarket market

@@ -5,7 +5,7 @@ use Rattle.tn_links.specs.Links.{AddAtMost, AreFalling, room}
 use Rattle.tn_links.specs.Widths.{most_each}
 use Rattle.tn_links.specs.declared.link.Step.{Step}
 use Rattle.tn_counts.specs.Laminar.{holds}
-use Rattle.tn_counts.specs.Widths.{most_count_sets, most_market_units, most_set_units, most_unit_amount, most_unit_firms, most_unit_trades, most_wide_trades}
+use Rattle.tn_counts.specs.Widths.{most_count_sets, most_market_units, most_set_units, most_unit_amount, most_unit_firms, most_unit_trades, most_wide_amount, most_wide_trades}
 use Rattle.tn_counts.specs.declared.market.Pin.{Pin}
 use Rattle.tn_counts.specs.declared.market.UnitMarket.{UnitMarket}
 use Rattle.tn_counts.specs.declared.set.CountSet.{CountSet}
@@ -90,10 +90,10 @@ pub record IsMarketWithin (trades limit : ℕ) (market : UnitMarket) : Type 0 wh
 abbrev pub IsUnitMarket : UnitMarket → Type 0
 IsUnitMarket market = IsMarketWithin most_unit_trades most_unit_amount market
 
--- one with as many trades again, and with any numbers that links take: a market of which some units are signed, whose
--- numbers are counted many times, is one
+-- one with as many trades again, and with large numbers: a market of which some units are signed, whose numbers are counted
+-- many times, is one
 abbrev pub IsWideMarket : UnitMarket → Type 0
-IsWideMarket market = IsMarketWithin most_wide_trades most_each market
+IsWideMarket market = IsMarketWithin most_wide_trades most_wide_amount market
 
 -- pins of different trades, at prices that links take
 pub record ArePins (trades : ℕ) (pins : List Pin) : Type 0 where

@@ -27,6 +27,10 @@ most_set_units = 2 ^ 21
 abbrev pub most_unit_amount : ℕ
 most_unit_amount = 2 * 10 ^ 7
 
+-- where a market's numbers are counted many times, one is at most so much in size: prices still end below 10^18
+abbrev pub most_wide_amount : ℕ
+most_wide_amount = 2 * 10 ^ 13
+
 -- a price of an equilibrium is at most so much in size
 abbrev pub most_unit_price : ℕ
 most_unit_price = 2 * 10 ^ 11

@@ -14,7 +14,7 @@ use tn_cycle::Finder;
 use tn_links::{Link, Links, Step, are_plain, settle_near};
 
 /// A unit over an arc costs at most so much, in size.
-const MOST_EACH: i64 = 200_000_000_000;
+const MOST_EACH: i64 = 2_000_000_000_000_000;
 
 /// What a problem is answered.
 #[derive(Clone, Copy)]

@@ -9,7 +9,7 @@ use Rattle.tn_base.specs.Widths.{most_cost}
 use Rattle.tn_links.specs.declared.link.Link.{Link}
 use Rattle.tn_links.specs.declared.links.Neighbour.{Neighbour}
 use Rattle.tn_links.specs.Links.{AddAtMost, ArePlain, AreSingle, joins, rise, room}
-use Rattle.tn_links.specs.Lots.{less_cost, link_arc, lot_cost, more_cost}
+use Rattle.tn_links.specs.Lots.{AreLight, LinksAddAtMost, less_cost, link_arc, lot_cost, more_cost}
 use Rattle.tn_links.specs.Near.{near_from, no_neighbour}
 use Rattle.tn_links.specs.RiseLemmas.{rise_at_most}
 use Rattle.tn_links.specs.Widths.{most_each, most_lot}
@@ -118,13 +118,25 @@ lot_at_most limit link level lot u cost small e = by (link.tail == u) e
     by true q = more q
     by false q = less q
 
-pub small-link_arc : (nodes : ℕ) (links : List Link) (levels : List ℕ) (lot : ℕ) → ArePlain nodes links
-    → lot ≤ most_lot → AreSmall (link_arc links levels lot) most_cost
-small-link_arc nodes links levels lot plain few a b cost e =
+pub small_lots : (links : List Link) (levels : List ℕ) (lot : ℕ) → AreLight links lot
+    → AreSmall (link_arc links levels lot) most_cost
+small_lots links levels lot light a b cost e =
     let arc = arc_of links levels lot a b cost e in
-    let small = lot_at_most most_each arc.link arc.level lot a cost
-    (plain.each arc.place arc.link arc.link_is).steps.slight arc.cost_is in
+    let small = lot_at_most light.limit arc.link arc.level lot a cost (light.each arc.place arc.link arc.link_is)
+    arc.cost_is in
+    let few = light.light in
     record { low = omega (arith, ints, small.low, few); high = omega (arith, ints, small.high, few) }
+
+-- a lot of units none of which adds more than a limit
+pub light_lots : (limit lot : ℕ) (links : List Link) → LinksAddAtMost limit links → lot ≤ most_lot
+    → lot * limit ≤ most_cost → AreLight links lot
+light_lots limit lot links each few light = record { few = few; limit = limit; each = each; light = light }
+
+-- a single unit
+pub light_units : (nodes : ℕ) (links : List Link) (levels : List ℕ) → ArePlain nodes links
+    → AreSmall (link_arc links levels 1) most_cost
+light_units nodes links levels plain = small_lots links levels 1
+    (light_lots most_each 1 links (λ j link at. (plain.each j link at).steps.slight) (omega arith) (omega arith))
 
 -- what a node's list has at a place
 pub record IsNear (links : List Link) (v u : ℕ) : Type 0 where

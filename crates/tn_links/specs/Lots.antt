@@ -1,8 +1,9 @@
 -- The graph of a flow with lots of so many units.
-use Rattle.std.specs.Prelude.{ℕ, ◌+◌, ◌-◌, min, nat_le, ℤ, ◌-ℤ◌, List, [], ◌∷◌, ◌==◌, if◌then◌else◌, Option, Some, None}
+use Rattle.std.specs.Prelude.{◌≡◌, ℕ, ◌+◌, ◌-◌, ◌*◌, ◌≤◌, min, nat_le, ℤ, ◌-ℤ◌, List, [], ◌∷◌, ◌==◌, if◌then◌else◌, slice_get, Option, Some, None}
+use Rattle.tn_base.specs.Widths.{most_cost}
 use Rattle.tn_links.specs.declared.link.Link.{Link}
-use Rattle.tn_links.specs.Links.{joins, rise, room}
-use Rattle.tn_links.specs.Widths.{most_level}
+use Rattle.tn_links.specs.Links.{AddAtMost, joins, rise, room}
+use Rattle.tn_links.specs.Widths.{most_level, most_lot}
 
 -- what a lot more over a link costs, none where there is no room
 abbrev pub more_cost : Link → ℕ → ℕ → Option ℤ
@@ -24,6 +25,18 @@ link_arc [] levels lot u v = None
 link_arc (link ∷ links) [] lot u v = None
 link_arc (link ∷ links) (level ∷ levels) lot u v =
     if joins link u v then lot_cost link level lot u else link_arc links levels lot u v
+
+-- no unit of the links adds more than a limit, in size
+abbrev pub LinksAddAtMost : ℕ → List Link → Type 0
+LinksAddAtMost limit links =
+    (j : ℕ) (link : Link) → slice_get links j ≡ Some link → AddAtMost limit link.steps.items
+
+-- a lot over no link costs more than an arc of a graph may
+pub record AreLight (links : List Link) (lot : ℕ) : Type 0 where
+  pub few : lot ≤ most_lot
+  pub limit : ℕ
+  pub each : LinksAddAtMost limit links
+  pub light : lot * limit ≤ most_cost
 
 -- the level of a link after a lot from one of its ends
 abbrev pub level_after : Link → ℕ → ℕ → ℕ → ℕ

@@ -3,7 +3,7 @@ use Rattle.std.specs.Prelude.{ℕ, ◌*◌, ◌^◌, ◌-◌}
 
 -- a unit adds at most so much to a gain, in size
 abbrev pub most_each : ℕ
-most_each = 2 * 10 ^ 11
+most_each = 2 * 10 ^ 15
 
 -- the steps of a link have at most so many units
 abbrev pub most_units : ℕ

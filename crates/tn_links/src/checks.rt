@@ -21,7 +21,7 @@ const MOST_LINKS: usize = 16_777_216;
 const MOST_UNITS: u32 = 16_777_216;
 
 /// A unit adds at most so much, in size.
-const MOST_EACH: i64 = 200_000_000_000;
+const MOST_EACH: i64 = 2_000_000_000_000_000;
 
 /// How many units the steps have, None where these are too many.
 fn units_of(steps: &[Step]) -> Option<u32>

@@ -6,6 +6,7 @@ mod checks;
 mod gains;
 mod guess;
 mod laws;
+mod light;
 mod link;
 mod links;
 mod lists;

@@ -1,11 +1,13 @@
 //! The graph of a flow with lots of so many units.
 
 ghost use Rattle.std.specs.Prelude.{◌≡◌, ◌≤◌, length};
+ghost use Rattle.tn_base.specs.Arcs.{AreSmall};
+ghost use Rattle.tn_base.specs.Widths.{most_cost};
 ghost use Rattle.tn_links.specs.Flows.{AreWithin};
-ghost use Rattle.tn_links.specs.LotLemmas.{between-link_arc, lists_predecessors-links, lists_successors-links, node_near, small-link_arc};
+ghost use Rattle.tn_links.specs.LotLemmas.{between-link_arc, lists_predecessors-links, lists_successors-links, node_near};
 ghost use Rattle.tn_links.specs.Lots.{link_arc};
-ghost use Rattle.tn_links.specs.Near.{near_from};
 ghost use Rattle.tn_links.specs.Widths.{most_lot};
+ghost use Rattle.tn_links.specs.Near.{near_from};
 
 use crate::links::Links;
 use tn_base::Costs;
@@ -20,6 +22,7 @@ pub(crate) struct LotGraph<'a> {
     ghost one_each: { length levels.now ≡ length links.now.links.items },
     ghost within: { AreWithin links.now.links.items levels.now },
     ghost small_lot: { lot ≤ most_lot },
+    ghost light: { AreSmall (link_arc links.now.links.items levels.now lot) most_cost },
 }
 
 impl Costs for LotGraph<'_> {
@@ -68,8 +71,7 @@ impl Costs for LotGraph<'_> {
     ghost between_nodes = { λ it. between-link_arc it.links.now.nodes it.links.now.links.items it.levels.now it.lot
         it.links.now.plain };
 
-    ghost small = { λ it. small-link_arc it.links.now.nodes it.links.now.links.items it.levels.now it.lot
-        it.links.now.plain it.small_lot };
+    ghost small = { λ it. it.light };
 
     ghost lists_predecessors = { λ it b inside. lists_predecessors-links it.links.now.nodes it.links.now.links.items
         it.levels.now it.lot b it.links.now.plain };

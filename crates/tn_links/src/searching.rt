@@ -7,8 +7,10 @@ ghost use Rattle.std.specs.Prelude.{◌≡◌, ◌<◌, ◌≤◌, ◌+◌, ◌*
 ghost use Rattle.tn_base.specs.Sets.{has};
 ghost use Rattle.tn_cycle.specs.Answers.{AreNear};
 ghost use Rattle.tn_links.specs.Flows.{IsKeptFlow, total_gain};
+ghost use Rattle.tn_links.specs.Lots.{AreLight};
 ghost use Rattle.tn_links.specs.Widths.{most_lot, near_enough};
 
+use crate::light::{is_light, most_of};
 use crate::links::Links;
 use crate::lots::LotGraph;
 use crate::push::push_round;
@@ -76,7 +78,7 @@ fn search(
     requires wide { links.now.nodes ≤ 64 * 256 + 1 }
     requires kept { IsKeptFlow links.now.links.items levels.old }
     requires inside { node + 1 < links.now.nodes }
-    requires small { lot ≤ most_lot }
+    requires light { AreLight links.now.links.items lot }
     ensures fits { finder.new.nodes ≡ links.now.nodes }
     ensures as_many { before.new.nodes ≡ links.now.nodes }
     ensures labelled { length finder.new.labels ≡ links.now.nodes }
@@ -149,7 +151,7 @@ fn mend(
     requires wide { links.now.nodes ≤ 64 * 256 + 1 }
     requires kept { IsKeptFlow links.now.links.items levels.old }
     requires inside { j < length links.now.links.items }
-    requires small { lot ≤ most_lot }
+    requires light { AreLight links.now.links.items lot }
     ensures fits { finder.new.nodes ≡ links.now.nodes }
     ensures as_many { before.new.nodes ≡ links.now.nodes }
     ensures labelled { length finder.new.labels ≡ links.now.nodes }
@@ -174,7 +176,7 @@ fn mend_all(
     requires labelled { length finder.old.labels ≡ links.now.nodes }
     requires wide { links.now.nodes ≤ 64 * 256 + 1 }
     requires kept { IsKeptFlow links.now.links.items levels.old }
-    requires small { lot ≤ most_lot }
+    requires light { AreLight links.now.links.items lot }
     ensures fits { finder.new.nodes ≡ links.now.nodes }
     ensures as_many { before.new.nodes ≡ links.now.nodes }
     ensures labelled { length finder.new.labels ≡ links.now.nodes }
@@ -210,7 +212,8 @@ fn first_nodes(count: u32) -> TradeSet<256>
 }
 
 /// Sends lots of 2^22 units round negative cycles, then lots half as large, down to one unit, as far as searches by labels
-/// find such cycles. The flow stays a kept one.
+/// find such cycles. Lots that could cost more than an arc of a graph may are passed over. The flow stays a kept one.
+#[tactic(auto, using(crate::specs::LotLemmas::light_lots))]
 pub(crate) fn send_lots(links: &Links, levels: &mut [u32], finder: &mut Finder, before: &mut Finder)
     requires fits { finder.old.nodes ≡ links.now.nodes }
     requires as_many { before.old.nodes ≡ links.now.nodes }
@@ -221,9 +224,12 @@ pub(crate) fn send_lots(links: &Links, levels: &mut [u32], finder: &mut Finder, 
 {
     let mut others = first_nodes(links.nodes.saturating_sub(1));
     finder.label_all();
+    let most = most_of(links);
     let mut lot = MOST_LOT;
     while lot > 0 {
-        mend_all(links, levels, finder, before, &mut others, lot);
+        if is_light(most, lot) {
+            mend_all(links, levels, finder, before, &mut others, lot);
+        }
         halve_labels(finder, links.nodes);
         lot /= 2;
     }

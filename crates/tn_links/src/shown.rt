@@ -6,7 +6,7 @@ ghost use Rattle.std.specs.Option.{ForSome};
 ghost use Rattle.tn_base.specs.Widths.{most_cost};
 ghost use Rattle.tn_cycle.specs.Answers.{AreNear, label_in};
 ghost use Rattle.tn_cycle.specs.Widths.{most_label};
-ghost use Rattle.tn_links.specs.LotLemmas.{between-link_arc, lists_predecessors-links, lists_successors-links, node_near, small-link_arc};
+ghost use Rattle.tn_links.specs.LotLemmas.{between-link_arc, lists_predecessors-links, lists_successors-links, node_near};
 ghost use Rattle.tn_links.specs.Lots.{link_arc};
 ghost use Rattle.tn_links.specs.Near.{near_from};
 ghost use Rattle.tn_links.specs.Shown.{kept_only, shown_arc};
@@ -90,8 +90,7 @@ impl Costs for Shown<'_> {
 
     ghost small = { λ it. small-shown (label_in it.labels.now.labels) it.node most_cost
         (link_arc it.graph.links.now.links.items it.graph.levels.now it.graph.lot)
-        (small-link_arc it.graph.links.now.nodes it.graph.links.now.links.items it.graph.levels.now it.graph.lot
-        it.graph.links.now.plain it.graph.small_lot) };
+        it.graph.light };
 
     ghost lists_predecessors = { λ it b inside. lists_predecessors-shown (label_in it.labels.now.labels) it.node
         it.graph.links.now.nodes (link_arc it.graph.links.now.links.items it.graph.levels.now it.graph.lot) b

@@ -6,7 +6,7 @@ use Rattle.tn_base.specs.Walks.{KeepsArcs, arcs_among, is_admitted}
 use Rattle.tn_cycle.specs.Answers.{AreNear, label_in}
 use Rattle.tn_cycle.specs.Widths.{most_label}
 use Rattle.tn_links.specs.Lots.{link_arc}
-use Rattle.tn_links.specs.LotLemmas.{between-link_arc}
+use Rattle.tn_links.specs.LotLemmas.{between-link_arc, small_lots}
 use Rattle.tn_links.specs.Rounds.{GoesRound}
 use Rattle.tn_links.specs.Shown.{shown_arc}
 use Rattle.tn_links.specs.Widths.{near_enough}
@@ -16,6 +16,10 @@ use Rattle.tn_links.proofs.searching.search.Goals as goal
 -- near enough is near
 wider : (z : ℤ) → IsAtMost z near_enough → IsAtMost z most_label
 wider z near = record { low = omega (arith, ints, near.low); high = omega (arith, ints, near.high) }
+
+pub invariant_of-graph-clause-light : goal.invariant_of-graph-clause-light
+invariant_of-graph-clause-light c =
+    small_lots c.args.links.now.links.items c.args.levels.now c.args.lot c.requires.light
 
 pub push_round-requires-clause-round : goal.push_round-requires-clause-round
 push_round-requires-clause-round c =

@@ -5,7 +5,6 @@ use Rattle.std.proofs.lemmas.Option.{get_or_from_slice_get}
 use mir.Syntax.{w128}
 use mir.Val.{SFits}
 use Rattle.tn_cycle.specs.Answers.{label_in}
-use Rattle.tn_links.specs.LotLemmas.{small-link_arc}
 use Rattle.tn_links.specs.Lots.{link_arc}
 use Rattle.tn_links.specs.Shown.{kept_only}
 use Rattle.tn_links.specs.ShownLemmas.{shown_off}
@@ -14,8 +13,7 @@ use Rattle.tn_links.proofs.shown.ShownCosts.cost.Goals as goal
 pub kept_only-requires-clause-cost : goal.kept_only-requires-clause-cost
 kept_only-requires-clause-cost c x is =
     let graph = c.args.self.now.graph in
-    small-link_arc graph.links.now.nodes graph.links.now.links.items graph.levels.now graph.lot graph.links.now.plain
-    graph.small_lot c.args.a c.args.b x (sym c.cost-cost.ensures ∙ is)
+    graph.light c.args.a c.args.b x (sym c.cost-cost.ensures ∙ is)
 
 pub returns : goal.returns
 returns c =
