@@ -12,10 +12,10 @@ use Rattle.tn_base.specs.Arcs.{IsAtMost}
 use Rattle.tn_base.proofs.WalkLemmas.{both_parts}
 use Rattle.tn_links.specs.Links.{rise, room}
 use Rattle.tn_links.specs.RiseLemmas.{rise_at_most, times_small}
-use Rattle.tn_links.specs.Widths.{most_each}
 use Rattle.tn_links.specs.Totals.{total}
 use Rattle.tn_links.proofs.BalanceLemmas.{added}
 use Rattle.tn_links.proofs.TotalLemmas.{total-same}
+use Rattle.tn_counts.specs.Widths.{most_wide_amount}
 use Rattle.tn_counts.specs.Outcomes.{HasEnd}
 use Rattle.tn_counts.specs.Counts.{AreCounts, count_utility, paid_to, payments, trade_at}
 use Rattle.tn_counts.specs.Laminar.{added_at, amount_sum, amount_to, amounts_at, bought_by, firm_of, holds, net_count, set_number, set_sum}
@@ -252,10 +252,10 @@ number_small limit firms set level is within = elim (cases_lt level set.back) [
 pub terms_so_far : (market : UnitMarket) (amounts : List UnitAmounts) (sold bought : List ℕ) (f k : ℕ) → IsWideMarket market
     → length amounts ≡ length market.trades.items
     → ((t : ℕ) (each : UnitAmounts) → slice_get amounts t ≡ Some each
-    → IsAtMost each.seller most_each × IsAtMost each.buyer most_each)
+    → IsAtMost each.seller most_wide_amount × IsAtMost each.buyer most_wide_amount)
     → AreCounts market.trades.items (count_in sold) → AreCounts market.trades.items (count_in bought)
     → k ≤ length market.trades.items
-    → IsAtMost (total (own_term market.trades.items amounts sold bought f) k) (k * 10 ^ 18)
+    → IsAtMost (total (own_term market.trades.items amounts sold bought f) k) (k * 10 ^ 20)
 unfolding total
 terms_so_far market amounts sold bought f zero is sized small few fewer within =
     record { low = omega (arith, ints); high = omega (arith, ints) }
@@ -267,8 +267,8 @@ terms_so_far market amounts sold bought f (suc k) is sized small few fewer withi
     let all = is.few_units in
     let each = small k (amounts_at amounts k)
     (slice_get-get_or amounts k (record { seller = pos 0; buyer = pos 0 }) (omega (arith, below, sized))) in
-    let sells = times_small (amounts_at amounts k).seller (count_in sold k) most_each each.0 in
-    let buys = times_small (amounts_at amounts k).buyer (count_in bought k) most_each each.1 in
+    let sells = times_small (amounts_at amounts k).seller (count_in sold k) most_wide_amount each.0 in
+    let buys = times_small (amounts_at amounts k).buyer (count_in bought k) most_wide_amount each.1 in
     let sold_few = few k below in
     let bought_few = fewer k below in
     let first = by (f == trade.seller) ((amounts_at amounts k).seller *ℤ pos (count_in sold k)) (record {
@@ -284,14 +284,14 @@ terms_so_far market amounts sold bought f (suc k) is sized small few fewer withi
       high = omega (arith, ints, before.high, first.high, second.high);
     }
   where
-    by : (b : Bool) (z : ℤ) → IsAtMost z (3 * 10 ^ 17) → IsAtMost (if b then z else pos 0) (3 * 10 ^ 17)
+    by : (b : Bool) (z : ℤ) → IsAtMost z (3 * 10 ^ 19) → IsAtMost (if b then z else pos 0) (3 * 10 ^ 19)
     by true z small = small
     by false z small = record { low = omega (arith, ints); high = omega (arith, ints) }
 
 pub terms_sum : (market : UnitMarket) (amounts : List UnitAmounts) (sold bought : List ℕ) (numbers : List ℤ) (f k : ℕ)
     → IsWideMarket market → length amounts ≡ length market.trades.items
     → ((t : ℕ) (each : UnitAmounts) → slice_get amounts t ≡ Some each
-    → IsAtMost each.seller most_each × IsAtMost each.buyer most_each)
+    → IsAtMost each.seller most_wide_amount × IsAtMost each.buyer most_wide_amount)
     → AreCounts market.trades.items (count_in sold) → AreCounts market.trades.items (count_in bought)
     → k ≤ length market.trades.items
     → get_or numbers f (pos 0) ≡ total (own_term market.trades.items amounts sold bought f) k
@@ -337,12 +337,12 @@ weaker {z} small = record { low = omega (arith, ints, small.low); high = omega (
 
 pub second_small : (market : UnitMarket) (counts : List ℕ) (before after : List ℤ) (p q t : ℕ) (each : ℤ)
     → IsWideMarket market → AreCounts market.trades.items (count_in counts) → t < length market.trades.items
-    → p < length before → IsAtMost each most_each
+    → p < length before → IsAtMost each most_wide_amount
     → after ≡ set before p (get_or before p (pos 0) +ℤ each *ℤ pos (count_in counts t))
     → IsAtMost (get_or before q (pos 0)) (10 ^ 25) → IsAtMost (get_or after q (pos 0)) most_sum
 second_small market counts before after p q t each is few below inside small made so_far =
     let step = ap (λ (xs : List ℤ). get_or xs q (pos 0)) made ∙ added before p q (each *ℤ pos (count_in counts t)) inside in
-    let more = times_small each (count_in counts t) most_each small in
+    let more = times_small each (count_in counts t) most_wide_amount small in
     let own = few t below in
     let units = units_below market.trades.items t below in
     let all = is.few_units in
@@ -496,9 +496,9 @@ worth_step market sold bought i one before after number whole f at number_at ins
 
 pub small_step : (i firm : ℕ) (before after : List (Option ℤ)) (number : Option ℤ) (f : ℕ) (worth : ℤ)
     → firm < length before → after ≡ set before firm (both (get_or before firm None) number)
-    → ((g : ℕ) (value : ℤ) → get_or before g None ≡ Some value → IsAtMost value (209715200000000000 + i * most_set_number))
+    → ((g : ℕ) (value : ℤ) → get_or before g None ≡ Some value → IsAtMost value (20971520000000000000 + i * most_set_number))
     → ((value : ℤ) → number ≡ Some value → IsAtMost value most_set_number)
-    → get_or after f None ≡ Some worth → IsAtMost worth (209715200000000000 + (i + 1) * most_set_number)
+    → get_or after f None ≡ Some worth → IsAtMost worth (20971520000000000000 + (i + 1) * most_set_number)
 small_step i firm before after number f worth inside made so_far small is = elim (cases_eq f firm) [
   | inl own ↦
       let now : get_or after f None ≡ both (get_or before firm None) number =
@@ -533,10 +533,10 @@ small_amounts market is t below =
     (slice_get-get_or market.amounts.items t (record { seller = pos 0; buyer = pos 0 }) (omega (arith, below, sized))) in
     (small.seller, small.buyer)
 
-pub slight_amounts : (amounts : List UnitAmounts)
-    → ((t : ℕ) (each : UnitAmounts) → slice_get amounts t ≡ Some each → AreAmountsWithin most_each each) → (t : ℕ)
-    (each : UnitAmounts) → slice_get amounts t ≡ Some each → IsAtMost each.seller most_each × IsAtMost each.buyer most_each
-slight_amounts amounts small t each at = let own = small t each at in (own.seller, own.buyer)
+pub wide_amounts : (amounts : List UnitAmounts)
+    → ((t : ℕ) (each : UnitAmounts) → slice_get amounts t ≡ Some each → AreAmountsWithin most_wide_amount each) → (t : ℕ)
+    (each : UnitAmounts) → slice_get amounts t ≡ Some each → IsAtMost each.seller most_wide_amount × IsAtMost each.buyer most_wide_amount
+wide_amounts amounts small t each at = let own = small t each at in (own.seller, own.buyer)
 
 pub some_at : (xs : List ℤ) (f : ℕ) → f < length xs → get_or (map Some xs) f None ≡ Some (get_or xs f (pos 0))
 some_at [] f below = absurd (omega (arith, below))

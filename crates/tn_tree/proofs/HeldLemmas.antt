@@ -9,7 +9,7 @@ use Rattle.std.proofs.lemmas.Option.{get_or_from_slice_get, none-some, same_Some
 use Rattle.std.proofs.Math.IntN.{negsuc, *ℤ_comm}
 use Rattle.tn_base.specs.Arcs.{IsAtMost}
 use Rattle.tn_links.specs.declared.link.Link.{Link}
-use Rattle.tn_links.specs.Widths.{most_each}
+use Rattle.tn_counts.specs.Widths.{most_unit_price}
 use Rattle.tn_counts.specs.Counts.{AreCounts, CountFirm, IsBestCount, IsEquilibriumByCounts, trade_at}
 use Rattle.tn_counts.specs.Laminar.{amounts_at, firm_of, firms_of}
 use Rattle.tn_counts.specs.Markets.{IsWideMarket}
@@ -241,8 +241,8 @@ utilities_small worths paid utilities n made small_worths small_paid f value is 
 
 -- prices as amounts
 pub rates_slight : (prices : List ℤ) (rates : List UnitAmounts) → rates ≡ map (rate_of prices) (range_with_len 0 (length prices))
-    → ((t : ℕ) → t < length prices → IsAtMost (price_in prices t) most_each) → (t : ℕ) (each : UnitAmounts)
-    → slice_get rates t ≡ Some each → IsAtMost each.seller most_each × IsAtMost each.buyer most_each
+    → ((t : ℕ) → t < length prices → IsAtMost (price_in prices t) most_unit_price) → (t : ℕ) (each : UnitAmounts)
+    → slice_get rates t ≡ Some each → IsAtMost each.seller most_unit_price × IsAtMost each.buyer most_unit_price
 rates_slight prices rates made small t each at =
     let long = sized_by (rate_of prices) rates (length prices) (length prices) made refl in
     let inside = slice_get_within rates t each at in
@@ -307,7 +307,7 @@ gain_is worths utilities bests firms n f made below =
     (record { worth = None; utility = None; best = pos 0; gain = None }) made below))
 
 -- what is paid is small
-pub paid_small : (z read : ℤ) {sum : ℤ} → z ≡ read → read ≡ sum → IsAtMost sum (1048576 * most_each) → IsAtMost z most_paid
+pub paid_small : (z read : ℤ) {sum : ℤ} → z ≡ read → read ≡ sum → IsAtMost sum (1048576 * most_unit_price) → IsAtMost z most_paid
 paid_small z read first second small = record {
   low = omega (arith, ints, first, second, small.low);
   high = omega (arith, ints, first, second, small.high);

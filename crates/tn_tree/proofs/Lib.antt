@@ -4,6 +4,7 @@ pub mod NetLemmas
 pub mod FirmLemmas
 pub mod KeptLemmas
 pub mod AroundLemmas
+pub mod BesideLemmas
 pub mod BuildLemmas
 pub mod ConstantLemmas
 pub mod SolveLemmas

@@ -1,5 +1,5 @@
 -- What the steps of least walks between null and a trade do to counts.
-use Rattle.std.proofs.Common.{◌≡◌, ◌≢◌, ℕ, zero, suc, ◌+◌, ◌-◌, ◌<◌, ◌≤◌, Bool, true, false, ◌==◌, if◌then◌else◌, nat_le, List, [], ◌∷◌, ◌++◌, length, drop, get_or, Option, Some, None, slice_get, refl, sym, ap, ap₂, ◌∙◌, subst, arith, ℤ, pos, ◌+ℤ◌, ◌-ℤ◌, append-nil, append_assoc}
+use Rattle.std.proofs.Common.{◌≡◌, ◌≢◌, ℕ, zero, suc, ◌-◌, ◌<◌, Bool, true, false, if◌then◌else◌, nat_le, List, [], ◌∷◌, ◌++◌, length, get_or, Option, Some, None, slice_get, refl, sym, ap, ap₂, ◌∙◌, subst, arith, ℤ, pos, ◌+ℤ◌, ◌-ℤ◌, append-nil, append_assoc}
 use Rattle.std.specs.Prelude.{All, not}
 use Rattle.std.proofs.lemmas.Option.{same_Some}
 use Rattle.std.proofs.lemmas.Int.{ints}
@@ -23,7 +23,7 @@ use Rattle.tn_counts.proofs.SurplusLemmas.{flow_of, surplus_same, traded_same}
 use Rattle.tn_tree.specs.declared.steps.UnitStep.{UnitStep}
 use Rattle.tn_tree.specs.Ranges.{IsHighPath, IsLowPath}
 use Rattle.tn_tree.specs.Steps.{AreOnce, entered, sells_at, step_at, stepped_down, trade_of, units_by}
-use Rattle.tn_tree.proofs.StepLemmas.{AreCrossed, IsStepAt, buyer_node, crossed, crossed_by, entered_known, entered_once, entered_sum, inner_below, once_more, seller_node, steps_add, units-append}
+use Rattle.tn_tree.proofs.StepLemmas.{AreCrossed, buyer_node, crossed, crossed_by, entered_known, entered_once, entered_sum, inner_below, once_more, seller_node, steps_add, units-append}
 use Rattle.tn_tree.proofs.WalkLemmas.{arcs_sum, first_leaves, last_enters, last_of, level_pushed, never_less, next_of, none_enter, none_leave, on, once_walk, one_if}
 
 -- a level before the last one
@@ -95,7 +95,7 @@ module _ (market : UnitMarket) (links : List Link) (levels : List ℕ) (label : 
       → (path : IsLeastPath (link_arc links levels 1) u w listed cost) → k < length market.trades.items
       → AreCrossed market levels (pushed links 1 levels u path.inner w) u path.inner w k
   moves u w listed cost k other path below =
-      crossed_by market links levels (pushed links 1 levels u path.inner w) u path.inner w k settled.of below
+      crossed_by market [] links levels (pushed links 1 levels u path.inner w) u path.inner w k settled.of below
       (λ j link at. level_pushed (suc (null_node market)) links levels u path.inner w cost j link flow.plain
       settled.kept.one_each settled.kept.within at (apart_from_different (u ∷ path.inner) path.different)
       (avoids-cons w u path.inner other path.ends) path.least.walk)

@@ -1,47 +1,46 @@
 -- Prices beside given ones, and that a negative cycle bars them.
-use Rattle.std.proofs.Common.{◌≡◌, ℕ, zero, suc, ◌+◌, ◌-◌, ◌*◌, ◌<◌, Bool, true, false, ◌==◌, if◌then◌else◌, List, length, map, get_or, Option, Some, None, slice_get, refl, sym, ap, ◌∙◌, subst, arith, ℤ, pos, ◌+ℤ◌, ◌-ℤ◌, ◌≤ℤ◌, ◌*ℤ◌}
-use Rattle.std.specs.Prelude.{neg_ℤ, nat_lt, ◌<ℤ◌}
+use Rattle.std.proofs.Common.{◌≡◌, ℕ, zero, suc, ◌+◌, ◌-◌, ◌*◌, ◌<◌, Bool, true, false, ◌==◌, if◌then◌else◌, List, length, map, get_or, Option, Some, None, slice_get, refl, sym, ap, ◌∙◌, subst, arith, ℤ, pos, ◌-ℤ◌, ◌≤ℤ◌, ◌*ℤ◌, ◌⊎◌, inl, inr, All}
+use Rattle.std.specs.Prelude.{neg_ℤ, nat_lt}
 use Rattle.std.specs.List.{range_with_len}
 use Rattle.std.proofs.lemmas.Int.{ints}
 use Rattle.std.proofs.lemmas.Bool.{lt-ltb, le-ltb}
 use Rattle.std.proofs.lemmas.List.Elements.{All-from_get_or}
 use Rattle.std.proofs.Math.IntN.{*ℤ-zero, *ℤ-one, *ℤ_comm, zero-*ℤ}
 use Rattle.tn_base.specs.Arcs.{AreSmall, IsAtMost}
-use Rattle.tn_base.specs.Walks.{IsCycle}
 use Rattle.tn_base.proofs.SumLemmas.{times-plus}
-use Rattle.tn_cycle.specs.Answers.{AreLabels, IsNegative, label_in}
+use Rattle.tn_cycle.specs.Answers.{AreLabels, AreSmallOff, label_in}
 use Rattle.tn_links.specs.declared.link.Link.{Link}
 use Rattle.tn_links.specs.Flows.{IsKeptFlow}
-use Rattle.tn_links.specs.Links.{ArePlain}
-use Rattle.tn_links.specs.LotLemmas.{arc_of, lot_at_most}
-use Rattle.tn_links.specs.Lots.{link_arc, pushed}
+use Rattle.tn_links.specs.Links.{AddAtMost, ArePlain}
+use Rattle.tn_links.specs.LotLemmas.{arc_of, ends_of, lot_at_most}
+use Rattle.tn_links.specs.Lots.{link_arc}
 use Rattle.tn_links.specs.RiseLemmas.{times_suc}
 use Rattle.tn_links.specs.Totals.{total}
 use Rattle.tn_links.specs.Widths.{most_each}
-use Rattle.tn_links.proofs.RoundLemmas.{cycles_gain}
-use Rattle.tn_links.proofs.TotalLemmas.{minus-times, times-below, times-minus, total-same, total-times, total-zero}
+use Rattle.tn_links.proofs.TotalLemmas.{minus-times, times-minus, total-same, total-times, total-zero}
 use Rattle.tn_counts.specs.Counts.{IsBestCount, CountFirm, count_utility, trade_at}
-use Rattle.tn_counts.specs.Laminar.{firm_of}
+use Rattle.tn_counts.specs.Laminar.{amounts_at, firm_of}
 use Rattle.tn_counts.specs.Markets.{ArePins, IsWideMarket}
 use Rattle.tn_counts.specs.Tree.{AreLinksOf, bought_at, counts_at, null_node, pin_place, pin_shape, price_by, root_node, sold_at, trade_node}
+use Rattle.tn_counts.specs.Widths.{most_wide_amount}
 use Rattle.tn_counts.specs.declared.market.Pin.{Pin}
 use Rattle.tn_counts.specs.declared.market.UnitMarket.{UnitMarket}
-use Rattle.tn_counts.proofs.ApartLemmas.{firms_have, has_of, surplus_is, worth_is}
-use Rattle.tn_counts.proofs.BoundLemmas.{below_equilibrium}
 use Rattle.tn_counts.proofs.FlowLemmas.{IsFlowOf, level_within, none_times}
 use Rattle.tn_counts.proofs.NetLemmas.{between_at, end_term, ends_pull}
 use Rattle.tn_counts.proofs.PlaceLemmas.{pin_in, pin_term, pull, root_term, shape_gain}
-use Rattle.tn_counts.proofs.PlainLemmas.{links_plain}
+use Rattle.tn_counts.proofs.PlainLemmas.{AreAll, by_place, links_plain}
 use Rattle.tn_counts.proofs.PriceLemmas.{prices_are}
-use Rattle.tn_counts.proofs.SurplusLemmas.{best_same, firm_at, prices_same, worth_same}
+use Rattle.tn_counts.proofs.SizeLemmas.{even_at_most}
+use Rattle.tn_counts.proofs.SurplusLemmas.{best_same, firm_at, prices_same}
 use Rattle.tn_counts.proofs.WorthLemmas.{even_rise}
 use Rattle.tn_tree.specs.Levels.{AreLevelsOf}
 use Rattle.tn_tree.specs.Lists.{price_in}
-use Rattle.tn_tree.specs.Pinned.{ArePricesBeside, AreUnsupportedBeside, HavePins, most_beside_price}
+use Rattle.tn_tree.specs.Pinned.{ArePricesBeside, HavePins, most_beside_price}
+use Rattle.tn_tree.proofs.FirmLemmas.{small_amounts}
 use Rattle.tn_tree.proofs.SolveLemmas.{read_at, sized_by}
 
 -- each firm's counts are those of all
-own_are : (market : UnitMarket) (pins : List Pin) (counts : ℕ → ℕ) (levels : List ℕ)
+pub own_are : (market : UnitMarket) (pins : List Pin) (counts : ℕ → ℕ) (levels : List ℕ)
     → AreLevelsOf market pins counts levels → (f t : ℕ) → t < length market.trades.items
     → counts_at market levels f t ≡ counts t
 own_are market pins counts levels have f t below = by (f == (trade_at market.trades.items t).seller)
@@ -61,45 +60,62 @@ arcs_slight nodes links levels plain u v cost e =
     (plain.each arc.place arc.link arc.link_is).steps.slight arc.cost_is in
     record { low = omega (arith, ints, small.low); high = omega (arith, ints, small.high) }
 
-pub labels_beside : (market : UnitMarket) (pins : List Pin) (links : List Link) (levels : List ℕ) (labels : List ℤ)
-    (nodes : ℕ) (counts : ℕ → ℕ) (prices : List ℤ) → IsWideMarket market → ArePins (length market.trades.items) pins
-    → AreLinksOf market pins links → IsKeptFlow links levels → AreLevelsOf market pins counts levels
+-- and none that doesn't meet null costs more than a market's amounts
+off_null : (market : UnitMarket) (pins : List Pin) → IsWideMarket market
+    → AreAll market pins (λ j shape. AddAtMost most_wide_amount shape.steps ⊎ (shape.head ≡ null_node market))
+off_null market pins is = record {
+  sets = λ i set at. inl (is.each i set at).small;
+  roots = λ f below. inr refl;
+  sellers = λ t below. inl (even_at_most most_wide_amount (trade_at market.trades.items t).units
+      (amounts_at market.amounts.items t).seller (small_amounts market is t below).0);
+  buyers = λ t below. inl (even_at_most most_wide_amount (trade_at market.trades.items t).units
+      (amounts_at market.amounts.items t).buyer (small_amounts market is t below).1);
+  pinned = λ k pin at. inr refl;
+}
+
+arcs_off : (market : UnitMarket) (pins : List Pin) (links : List Link) (levels : List ℕ) → IsWideMarket market
+    → AreLinksOf market pins links → AreSmallOff (link_arc links levels 1) (null_node market) most_wide_amount
+arcs_off market pins links levels is of u v cost u_off v_off e =
+    let arc = arc_of links levels 1 u v cost e in
+    elim (by_place market pins links
+    (λ j shape. AddAtMost most_wide_amount shape.steps ⊎ (shape.head ≡ null_node market)) of (off_null market pins is)
+    arc.place arc.link arc.link_is) [
+      | inl small ↦
+          let own = lot_at_most most_wide_amount arc.link arc.level 1 u cost small arc.cost_is in
+          record { low = omega (arith, ints, own.low); high = omega (arith, ints, own.high) }
+      | inr head ↦ absurd (elim (ends_of arc.link u v arc.joined) [
+        | inl ends ↦ v_off (sym ends.1 ∙ head)
+        | inr ends ↦ u_off (sym ends.1 ∙ head)
+      ])
+    ]
+
+-- prices by labels
+pub record ArePricesBy (market : UnitMarket) (pins : List Pin) (labels prices : List ℤ) : Type 0 where
+  pub one_each : length prices ≡ length market.trades.items
+  pub given : HavePins pins (pos 1) (price_in prices)
+  pub price : (t : ℕ) → t < length market.trades.items → price_by market (label_in labels) t ≡ price_in prices t
+  pub small : All (λ price. IsAtMost price most_beside_price) prices
+
+pub priced_beside : (market : UnitMarket) (pins : List Pin) (links : List Link) (levels : List ℕ) (labels : List ℤ)
+    (nodes : ℕ) (prices : List ℤ) → ArePins (length market.trades.items) pins → IsFlowOf market pins links levels
     → AreLabels nodes (link_arc links levels 1) labels → nodes ≡ null_node market + 1
     → prices ≡ map (price_by market (label_in labels)) (range_with_len 0 (length market.trades.items))
-    → ArePricesBeside market pins counts prices
-labels_beside market pins links levels labels nodes counts prices is are of kept have labelled sized priced =
-    let all = prices_are market pins links levels (label_in labels) (record {
-      flow = record { market_is = is; of = of; plain = plain; kept = kept };
-      pins_are = are;
-      keeps = labelled.keeps;
-    }) in
-    record {
-      one_each = count;
-      given = λ k pin at.
-          let one = *ℤ_comm (pos 1) pin.price in
-          let unit = *ℤ-one pin.price in
-          let own = all.given k pin at in
-          let read = price pin.trade (are.known k pin at) in
-          omega (arith, ints, one, unit, own, read);
-      equilibrium = λ f firm at.
-          let found = firm_at market f firm at in
-          let best = all.best f found.0 in (
-            best.0,
-            subst (λ (one : CountFirm). IsBestCount market.trades.items
-                (count_utility market.trades.items (pos 1) (price_in prices) f one) counts best.0) (sym found.1)
-                (prices_same market.trades.items (pos 1) (price_by market (label_in labels)) (price_in prices) f
-                (firm_of market f) counts best.0 price
-                (best_same market (pos 1) (price_by market (label_in labels)) f (counts_at market levels f) counts best.0
-                (λ t below. own_are market pins counts levels have f t below) best.1)),
-          );
-      small = All-from_get_or (λ price. IsAtMost price most_beside_price) prices (pos 0) (λ t inside.
-          let below : t < length market.trades.items = omega (arith, inside, count) in
-          subst (λ price. IsAtMost price most_beside_price) (price t below) (small t below));
-    }
+    → ArePricesBy market pins labels prices
+priced_beside market pins links levels labels nodes prices are flow labelled sized priced = record {
+  one_each = count;
+  given = λ k pin at.
+      let one = *ℤ_comm (pos 1) pin.price in
+      let unit = *ℤ-one pin.price in
+      let own = (prices_are market pins links levels (label_in labels)
+      (record { flow = flow; pins_are = are; keeps = labelled.keeps })).given k pin at in
+      let read = price pin.trade (are.known k pin at) in
+      omega (arith, ints, one, unit, own, read);
+  price = price;
+  small = All-from_get_or (λ price. IsAtMost price most_beside_price) prices (pos 0) (λ t inside.
+      let below : t < length market.trades.items = omega (arith, inside, count) in
+      subst (λ price. IsAtMost price most_beside_price) (price t below) (small t below));
+}
   where
-    plain : ArePlain (suc (null_node market)) links
-    plain = links_plain market pins links is are of
-
     count : length prices ≡ length market.trades.items
     count = sized_by (price_by market (label_in labels)) prices (length market.trades.items) (length market.trades.items)
         priced refl
@@ -108,13 +124,16 @@ labels_beside market pins links levels labels nodes counts prices is are of kept
     price t below =
         read_at (price_by market (label_in labels)) prices (length market.trades.items) t (pos 0) priced below
 
-    at : (v : ℕ) → v < nodes → (neg_ℤ (pos (13312 * most_each)) ≤ℤ label_in labels v) × (label_in labels v ≤ℤ pos 0)
+    at : (v : ℕ) → v < nodes
+        → (neg_ℤ (pos (13312 * most_wide_amount + 2 * most_each)) ≤ℤ label_in labels v) × (label_in labels v ≤ℤ pos 0)
     at v inside =
         let high = labelled.high v inside in
-        let low = labelled.low most_each v (arcs_slight (suc (null_node market)) links levels plain) inside in
-        let sets = is.few_sets in
-        let firms = is.few_firms in
-        let trades = is.few_trades in
+        let low = labelled.low_off (null_node market) most_wide_amount most_each v
+        (arcs_off market pins links levels flow.market_is flow.of)
+        (arcs_slight (suc (null_node market)) links levels flow.plain) inside in
+        let sets = flow.market_is.few_sets in
+        let firms = flow.market_is.few_firms in
+        let trades = flow.market_is.few_trades in
         (omega (arith, ints, low, sized, sets, firms, trades), high)
 
     small : (t : ℕ) → t < length market.trades.items
@@ -123,6 +142,47 @@ labels_beside market pins links levels labels nodes counts prices is are of kept
         let one = at (trade_node market t) (omega (arith, sized, below)) in
         let null = at (null_node market) (omega (arith, sized)) in
         record { low = omega (arith, ints, one.0, null.1); high = omega (arith, ints, one.1, null.0) }
+
+-- what each firm has at the levels is best for it at these prices, and so are other lists of the same counts
+pub best_beside : (market : UnitMarket) (pins : List Pin) (links : List Link) (levels : List ℕ) (labels prices : List ℤ)
+    (nodes f : ℕ) (counts : ℕ → ℕ) → ArePins (length market.trades.items) pins → IsFlowOf market pins links levels
+    → AreLabels nodes (link_arc links levels 1) labels → ArePricesBy market pins labels prices → f < market.firms
+    → ((t : ℕ) → t < length market.trades.items → counts_at market levels f t ≡ counts t)
+    → (value : ℤ) × IsBestCount market.trades.items (count_utility market.trades.items (pos 1) (price_in prices) f
+    (firm_of market f)) counts value
+best_beside market pins links levels labels prices nodes f counts are flow labelled priced below same =
+    let best = (prices_are market pins links levels (label_in labels)
+    (record { flow = flow; pins_are = are; keeps = labelled.keeps })).best f below in (
+      best.0,
+      prices_same market.trades.items (pos 1) (price_by market (label_in labels)) (price_in prices) f
+          (firm_of market f) counts best.0 priced.price
+          (best_same market (pos 1) (price_by market (label_in labels)) f (counts_at market levels f) counts best.0 same
+          best.1),
+    )
+
+pub labels_beside : (market : UnitMarket) (pins : List Pin) (links : List Link) (levels : List ℕ) (labels : List ℤ)
+    (nodes : ℕ) (counts : ℕ → ℕ) (prices : List ℤ) → IsWideMarket market → ArePins (length market.trades.items) pins
+    → AreLinksOf market pins links → IsKeptFlow links levels → AreLevelsOf market pins counts levels
+    → AreLabels nodes (link_arc links levels 1) labels → nodes ≡ null_node market + 1
+    → prices ≡ map (price_by market (label_in labels)) (range_with_len 0 (length market.trades.items))
+    → ArePricesBeside market pins counts prices
+labels_beside market pins links levels labels nodes counts prices is are of kept have labelled sized made =
+    let flow : IsFlowOf market pins links levels =
+    record { market_is = is; of = of; plain = links_plain market pins links is are of; kept = kept } in
+    let priced = priced_beside market pins links levels labels nodes prices are flow labelled sized made in
+    record {
+      one_each = priced.one_each;
+      given = priced.given;
+      equilibrium = λ f firm at.
+          let found = firm_at market f firm at in
+          let best = best_beside market pins links levels labels prices nodes f counts are flow labelled priced found.0
+          (λ t below. own_are market pins counts levels have f t below) in (
+            best.0,
+            subst (λ (one : CountFirm). IsBestCount market.trades.items
+                (count_utility market.trades.items (pos 1) (price_in prices) f one) counts best.0) (sym found.1) best.1,
+          );
+      small = priced.small;
+    }
 
 -- ---- what pinned trades are paid
 
@@ -167,15 +227,15 @@ priced_null market prices =
     (le-ltb (length market.trades.items) (length market.trades.items) (omega arith))
 
 -- what flows over a pin is paid at the price of its trade
-abbrev pays_in : (ℕ → ℤ) → ℕ → Option Pin → ℤ
+abbrev pub pays_in : (ℕ → ℤ) → ℕ → Option Pin → ℤ
 pays_in prices level None = pos 0
 pays_in prices level (Some pin) = prices pin.trade *ℤ (pos level -ℤ pos 4194304)
 
-abbrev pays : UnitMarket → List Pin → List ℕ → (ℕ → ℤ) → ℕ → ℤ
+abbrev pub pays : UnitMarket → List Pin → List ℕ → (ℕ → ℤ) → ℕ → ℤ
 pays market pins levels prices k = pays_in prices (get_or levels (pin_place market k) 0) (slice_get pins k)
 
 -- what is sold and not bought is what flows over the pins
-paid_over : (market : UnitMarket) (pins : List Pin) (links : List Link) (levels : List ℕ) (prices : ℕ → ℤ)
+pub paid_over : (market : UnitMarket) (pins : List Pin) (links : List Link) (levels : List ℕ) (prices : ℕ → ℤ)
     → ArePins (length market.trades.items) pins → IsFlowOf market pins links levels
     → total (λ t. prices t *ℤ (pos (sold_at market levels t) -ℤ pos (bought_at market levels t)))
     (length market.trades.items)
@@ -262,7 +322,7 @@ scale_units s p (suc n) =
     omega (arith, ints, before, first, second, third)
 
 -- so many times it is what they are paid at so many times their prices
-pins_pay : (market : UnitMarket) (pins : List Pin) (links : List Link) (levels : List ℕ) (scale : ℤ) (prices : ℕ → ℤ)
+pub pins_pay : (market : UnitMarket) (pins : List Pin) (links : List Link) (levels : List ℕ) (scale : ℤ) (prices : ℕ → ℤ)
     → IsFlowOf market pins links levels → HavePins pins scale prices
     → total (pays market pins levels prices) (length pins)
     ≡ scale *ℤ total (pin_term shape_gain market pins levels) (length pins)
@@ -292,7 +352,7 @@ pins_pay market pins links levels scale prices flow have =
         omega (arith, ints, price, split, one, two, parts, whole)
 
 -- pins over which nothing flows gain nothing
-idle_gain : (market : UnitMarket) (pins : List Pin) (levels : List ℕ)
+pub idle_gain : (market : UnitMarket) (pins : List Pin) (levels : List ℕ)
     → ((k : ℕ) → k < length pins → get_or levels (pin_place market k) 0 ≡ 4194304)
     → total (pin_term shape_gain market pins levels) (length pins) ≡ pos 0
 idle_gain market pins levels idle =
@@ -305,43 +365,3 @@ idle_gain market pins levels idle =
         let same = ap (λ (n : ℕ). shape_gain (pin_shape market pin) n) is in
         let none : shape_gain (pin_shape market pin) 4194304 ≡ pos 0 = omega (arith, ints) in
         same ∙ none
-
--- ---- a negative cycle
-
-pub cycles_beside : (market : UnitMarket) (pins : List Pin) (links : List Link) (levels : List ℕ) (first : ℕ)
-    (rest : List ℕ) (cost : ℤ) (counts : ℕ → ℕ) → IsWideMarket market → ArePins (length market.trades.items) pins
-    → AreLinksOf market pins links → IsKeptFlow links levels → AreLevelsOf market pins counts levels → cost <ℤ pos 0
-    → IsCycle (link_arc links levels 1) first rest cost → AreUnsupportedBeside market pins counts
-cycles_beside market pins links levels first rest cost counts is are of kept have negative cycle scale prices least given
-    equal =
-    let plain = links_plain market pins links is are of in
-    let after : List ℕ = pushed links 1 levels first rest first in
-    let gains = cycles_gain (suc (null_node market)) links levels 1 first rest cost plain kept negative cycle in
-    let flow : IsFlowOf market pins links levels = record { market_is = is; of = of; plain = plain; kept = kept } in
-    let round : IsFlowOf market pins links after = record { market_is = is; of = of; plain = plain; kept = gains.kept } in
-    let worths : ℕ → ℤ = λ f. has_of market (counts_at market levels f) f in
-    let surplus = surplus_is market counts worths (λ f below. worth_same market f counts (counts_at market levels f)
-    (λ t inside. sym (own_are market pins counts levels have f t inside)) ∙ worth_is market pins links levels flow f) in
-    let now = firms_have market pins links levels flow in
-    let later = firms_have market pins links after round in
-    let none = idle_gain market pins levels have.pinned in
-    let paid = paid_over market pins links after prices are round in
-    let pinned = pins_pay market pins links after scale prices round given in
-    let most = below_equilibrium market pins links after scale (total worths market.firms) counts prices round equal
-    surplus in
-    let own : ℤ = total (λ f. has_of market (counts_at market after f) f) market.firms in
-    let over : ℤ = total (pin_term shape_gain market pins after) (length pins) in
-    let parts = times-plus scale own over in
-    let gained = gains.gained in
-    let whole : own +ℤ over ≡ total worths market.firms -ℤ cost = omega (arith, ints, now, later, none, gained) in
-    let times = ap (λ (z : ℤ). scale *ℤ z) whole in
-    let below = times-below scale (total worths market.firms -ℤ cost) (total worths market.firms) least
-    (omega (arith, ints, most, paid, pinned, parts, times)) in
-    omega (arith, ints, below, negative)
-
-pub negative_beside : (market : UnitMarket) (pins : List Pin) (links : List Link) (levels listed : List ℕ)
-    (nodes count : ℕ) (cost : ℤ) (counts : ℕ → ℕ) → IsWideMarket market → ArePins (length market.trades.items) pins
-    → AreLinksOf market pins links → IsKeptFlow links levels → AreLevelsOf market pins counts levels
-    → IsNegative nodes (link_arc links levels 1) listed cost count → AreUnsupportedBeside market pins counts
-negative_beside market pins links levels listed nodes count cost counts is are of kept have found =
-    cycles_beside market pins links levels found.first found.rest cost counts is are of kept have found.negative found.cycle

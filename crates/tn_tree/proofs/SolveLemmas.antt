@@ -12,7 +12,7 @@ use Rattle.tn_cycle.specs.Widths.{most_graph_nodes, most_read}
 use Rattle.tn_links.specs.declared.link.Link.{Link}
 use Rattle.tn_links.specs.Flows.{IsKeptFlow, total_gain}
 use Rattle.tn_links.specs.Links.{ArePlain}
-use Rattle.tn_links.specs.LotLemmas.{small-link_arc}
+use Rattle.tn_links.specs.LotLemmas.{light_units}
 use Rattle.tn_links.specs.Lots.{link_arc}
 use Rattle.tn_links.specs.Widths.{most_each}
 use Rattle.tn_counts.specs.Counts.{IsBestCount, IsEquilibriumByCounts, count_surplus, count_utility, trade_at}
@@ -55,7 +55,7 @@ pub labels_small : (size nodes : ℕ) (links : List Link) (levels : List ℕ) (l
 labels_small size nodes links levels labels plain few are v below =
     let inside : v < nodes = let sized = are.one_each in omega (arith, sized, below) in
     let high = are.high v inside in
-    let low = are.low 1000000000000000000 v (small-link_arc size links levels 1 plain (omega arith)) inside in
+    let low = are.low 1000000000000000000 v (light_units size links levels plain) inside in
     record { low = omega (arith, ints, low, few); high = omega (arith, ints, high) }
 
 -- what a walk or a cycle costs that has no node twice
@@ -147,7 +147,7 @@ pin_is prices pins made k pin at =
 
 pub pins_are : (trades : ℕ) (prices : List ℤ) (pins : List Pin)
     → pins ≡ map (pin_of prices) (range_with_len 0 (length prices)) → length prices ≡ trades
-    → ((t : ℕ) → t < length prices → IsAtMost (price_in prices t) most_each) → ArePins trades pins
+    → ((t : ℕ) → t < length prices → IsAtMost (price_in prices t) most_unit_price) → ArePins trades pins
 pins_are trades prices pins made sized small = record {
   few = let count = ap length made ∙ length-map-range_with_len (pin_of prices) 0 (length prices) in
       omega (arith, count, sized);
@@ -162,7 +162,9 @@ pins_are trades prices pins made sized small = record {
       omega (arith, first, second, same);
   small = λ k pin at.
       let found = pin_is prices pins made k pin at in
-      subst (λ (p : Pin). IsAtMost p.price most_each) (sym found.1) (small k found.0);
+      let own = small k found.0 in
+      subst (λ (p : Pin). IsAtMost p.price most_each) (sym found.1)
+      (record { low = omega (arith, ints, own.low); high = omega (arith, ints, own.high) });
 }
 
 pub best_read : (market : UnitMarket) (prices : List ℤ) (pins : List Pin) (links : List Link) (levels : List ℕ)

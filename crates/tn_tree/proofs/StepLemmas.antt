@@ -14,6 +14,7 @@ use Rattle.tn_links.proofs.RoundLemmas.{cycles_gain}
 use Rattle.tn_counts.specs.Counts.{trade_at}
 use Rattle.tn_counts.specs.Markets.{IsWideMarket}
 use Rattle.tn_counts.specs.Tree.{AreLinksOf, HasLink, LinkShape, bought_at, buyer_place, buyer_shape, inner_node, null_node, root_node, seller_place, seller_shape, shape_of, sold_at, trade_node}
+use Rattle.tn_counts.specs.declared.market.Pin.{Pin}
 use Rattle.tn_counts.specs.declared.market.UnitMarket.{UnitMarket}
 use Rattle.tn_counts.proofs.FlowLemmas.{IsFlowOf}
 use Rattle.tn_counts.proofs.NetLemmas.{between_at}
@@ -232,12 +233,12 @@ pub record AreCrossed (market : UnitMarket) (levels after : List ℕ) (u : ℕ) 
       +ℤ (arcs_sum (on (trade_node market k) (buyer_node market k)) u vs w
       -ℤ arcs_sum (on (buyer_node market k) (trade_node market k)) u vs w)
 
-pub crossed_by : (market : UnitMarket) (links : List Link) (levels after : List ℕ) (u : ℕ) (vs : List ℕ) (w k : ℕ)
-    → AreLinksOf market [] links → k < length market.trades.items
+pub crossed_by : (market : UnitMarket) (pins : List Pin) (links : List Link) (levels after : List ℕ) (u : ℕ) (vs : List ℕ)
+    (w k : ℕ) → AreLinksOf market pins links → k < length market.trades.items
     → ((j : ℕ) (link : Link) → slice_get links j ≡ Some link
     → pos (get_or after j 0) ≡ pos (get_or levels j 0) +ℤ arcs_sum (more_by link) u vs w)
     → AreCrossed market levels after u vs w k
-crossed_by market links levels after u vs w k of below level = record {
+crossed_by market pins links levels after u vs w k of below level = record {
   sold = by (seller_place market k) (seller_shape market k) (of.sellers k below);
   bought = by (buyer_place market k) (buyer_shape market k) (of.buyers k below);
 }
@@ -262,7 +263,7 @@ pub round_counts : (market : UnitMarket) (links : List Link) (levels : List ℕ)
 round_counts market links levels u vs cost flow negative cycle k below =
     let nodes : ℕ = suc (null_node market) in
     let round = rounded nodes links levels u vs cost flow.plain flow.kept.one_each flow.kept.within negative cycle in
-    let moves = crossed_by market links levels (pushed links 1 levels u vs u) u vs u k flow.of below round.level in
+    let moves = crossed_by market [] links levels (pushed links 1 levels u vs u) u vs u k flow.of below round.level in
     let s = seller_node market k in
     let b = buyer_node market k in
     let n = trade_node market k in

@@ -7,11 +7,10 @@ use Rattle.std.proofs.Math.IntN.{*ℤ_comm}
 use Rattle.tn_base.specs.Arcs.{IsAtMost}
 use Rattle.tn_base.specs.Options.{both}
 use Rattle.tn_base.proofs.WalkLemmas.{both_parts}
-use Rattle.tn_links.specs.Widths.{most_each}
 use Rattle.tn_counts.specs.Counts.{AreCounts, paid_to, payments, trade_at}
 use Rattle.tn_counts.specs.Laminar.{amount_sum, firm_of, net_count, set_number, set_sum}
 use Rattle.tn_counts.specs.Markets.{IsCountSet, IsUnitMarket}
-use Rattle.tn_counts.specs.Widths.{most_unit_amount}
+use Rattle.tn_counts.specs.Widths.{most_unit_amount, most_unit_price}
 use Rattle.tn_counts.specs.declared.market.UnitMarket.{UnitMarket}
 use Rattle.tn_counts.specs.declared.set.CountSet.{CountSet}
 use Rattle.tn_counts.specs.declared.trade.UnitTrade.{UnitTrade}
@@ -68,22 +67,22 @@ module _ (market : UnitMarket) (is : IsUnitMarket market) (f : ℕ) (counts : �
       }
 
   pays_small : (prices : List ℤ) → length prices ≡ length market.trades.items
-      → ((t : ℕ) → t < length prices → IsAtMost (price_in prices t) most_each)
-      → IsAtMost (payments market.trades.items (price_in prices) f counts) (1048576 * most_each)
+      → ((t : ℕ) → t < length prices → IsAtMost (price_in prices t) most_unit_price)
+      → IsAtMost (payments market.trades.items (price_in prices) f counts) (1048576 * most_unit_price)
   pays_small prices sized small =
-      units_bring market (λ t. paid_to f (price_in prices t) (trade_at market.trades.items t)) counts most_each is
+      units_bring market (λ t. paid_to f (price_in prices t) (trade_at market.trades.items t)) counts most_unit_price is
       (λ t inside. either (f == (trade_at market.trades.items t).seller) (f == (trade_at market.trades.items t).buyer)
       (price_in prices t) (small t (omega (arith, inside, sized)))) within
     where
-      either : (s b : Bool) (z : ℤ) → IsAtMost z most_each
-          → IsAtMost ((if s then z else pos 0) -ℤ (if b then z else pos 0)) most_each
+      either : (s b : Bool) (z : ℤ) → IsAtMost z most_unit_price
+          → IsAtMost ((if s then z else pos 0) -ℤ (if b then z else pos 0)) most_unit_price
       either true true z most = record { low = omega (arith, ints); high = omega (arith, ints) }
       either true false z most = record { low = omega (arith, ints, most.low); high = omega (arith, ints, most.high) }
       either false true z most = record { low = omega (arith, ints, most.high); high = omega (arith, ints, most.low) }
       either false false z most = record { low = omega (arith, ints); high = omega (arith, ints) }
 
   value_small : (prices : List ℤ) (value : ℤ) → length prices ≡ length market.trades.items
-      → ((t : ℕ) → t < length prices → IsAtMost (price_in prices t) most_each)
+      → ((t : ℕ) → t < length prices → IsAtMost (price_in prices t) most_unit_price)
       → utility_at market.trades.items prices f (firm_of market f) counts ≡ Some value → IsAtMost value (5 * 10 ^ 17)
   value_small prices value sized small has =
       let own = has_worth (pos 1) (payments market.trades.items (price_in prices) f counts)
@@ -107,7 +106,7 @@ gained (Some own) most value is = (own, refl, sym (same_Some (most -ℤ own) val
 pub held_small : (market : UnitMarket) (counts : List ℕ) (prices : List ℤ) (sold bought : List ℕ) (f : ℕ)
     (said : FirmCount) → IsUnitMarket market → AreCounts market.trades.items (count_in counts)
     → length prices ≡ length market.trades.items
-    → ((t : ℕ) → t < length prices → IsAtMost (price_in prices t) most_each)
+    → ((t : ℕ) → t < length prices → IsAtMost (price_in prices t) most_unit_price)
     → IsHeldAt market.trades.items f (firm_of market f) counts prices sold bought said
     → IsHeld market.trades.items f (firm_of market f) counts prices sold bought said
 held_small market counts prices sold bought f said is within sized small held =

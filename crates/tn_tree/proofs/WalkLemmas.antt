@@ -80,7 +80,7 @@ never_less p q u (v ∷ vs) w = let rest = never_less p q v vs w in by (u == p &
     by false rest = omega (arith, ints, rest)
 
 -- no arc of a walk that doesn't meet p
-off_walk : (p q u : ℕ) (vs : List ℕ) (w : ℕ) → u ≢ p → Avoids p vs → w ≢ p
+pub off_walk : (p q u : ℕ) (vs : List ℕ) (w : ℕ) → u ≢ p → Avoids p vs → w ≢ p
     → (arcs_sum (on p q) u vs w ≡ pos 0) × (arcs_sum (on q p) u vs w ≡ pos 0)
 off_walk p q u [] w first avoids last = (off_first p q u w first, off_second q p u w last)
 off_walk p q u (v ∷ vs) w first avoids last =

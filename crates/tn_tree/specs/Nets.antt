@@ -4,8 +4,7 @@ use Rattle.tn_links.specs.declared.link.Link.{Link}
 use Rattle.tn_links.specs.Totals.{total}
 use Rattle.tn_counts.specs.Counts.{trade_at}
 use Rattle.tn_counts.specs.Tree.{HasLink, buyer_place, buyer_shape, inner_node, seller_place, seller_shape, set_shape}
-use Rattle.tn_links.specs.Widths.{most_each}
-use Rattle.tn_counts.specs.Widths.{most_set_units}
+use Rattle.tn_counts.specs.Widths.{most_set_units, most_wide_amount}
 use Rattle.tn_counts.specs.declared.market.UnitMarket.{UnitMarket}
 use Rattle.tn_counts.specs.declared.set.CountSet.{CountSet}
 use Rattle.tn_counts.proofs.ClimbLemmas.{moved, moved_in}
@@ -42,11 +41,11 @@ most_sum = 10 ^ 26
 
 -- what a set adds is at most so much in size
 abbrev pub most_set_number : ℕ
-most_set_number = (most_set_units + 1) * most_each
+most_set_number = (most_set_units + 1) * most_wide_amount
 
 -- what a firm has by counts is at most so much in size, and so is what it pays for them and what it is paid
 abbrev pub most_count_worth : ℕ
-most_count_worth = 2 * 10 ^ 21
+most_count_worth = 2 * 10 ^ 23
 
 abbrev pub most_paid : ℕ
 most_paid = 3 * 10 ^ 17

@@ -1,5 +1,5 @@
 -- What the search for prices of given counts says.
-use Rattle.std.specs.Prelude.{◌≡◌, ℕ, ◌<◌, ℤ, pos, neg_ℤ, ◌+ℤ◌, ◌≤ℤ◌, ◌<ℤ◌, List, length, slice_get, All, Option, Some, None, get_or}
+use Rattle.std.specs.Prelude.{◌≡◌, ℕ, ◌<◌, ℤ, pos, neg_ℤ, ◌+ℤ◌, ◌≤ℤ◌, ◌<ℤ◌, List, length, All, Option, Some, None, get_or}
 use Rattle.tn_base.specs.Arcs.{IsAtMost}
 use Rattle.tn_counts.specs.Counts.{IsEquilibriumByCounts}
 use Rattle.tn_counts.specs.Laminar.{firm_of, firms_of}

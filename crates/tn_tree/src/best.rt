@@ -3,11 +3,10 @@
 ghost use Rattle.std.specs.Prelude.{◌≡◌, ℕ, ◌<◌, ◌≤◌, ℤ, length, map, pos, IfOk};
 ghost use Rattle.std.specs.List.{range_with_len};
 ghost use Rattle.tn_base.specs.Arcs.{IsAtMost};
-ghost use Rattle.tn_links.specs.Widths.{most_each};
 ghost use Rattle.tn_counts.specs.Counts.{IsBestCount, count_utility};
 ghost use Rattle.tn_counts.specs.Laminar.{firm_of};
 ghost use Rattle.tn_counts.specs.Markets.{IsUnitMarket, IsWideMarket};
-ghost use Rattle.tn_counts.specs.Widths.{most_wide_trades};
+ghost use Rattle.tn_counts.specs.Widths.{most_unit_price, most_wide_trades};
 ghost use Rattle.tn_tree.specs.Lists.{own_counts, pin_of, price_in};
 
 use crate::around::trade_node;
@@ -30,7 +29,7 @@ pub struct BestCounts {
 /// A pin for each trade.
 fn pin_all(alloc: Global, prices: &[i64]) -> Result<Vec<Pin>, OutOfMemory>
     requires few { length prices.now ≤ most_wide_trades }
-    requires small { (t : ℕ) → t < length prices.now → IsAtMost (price_in prices.now t) most_each }
+    requires small { (t : ℕ) → t < length prices.now → IsAtMost (price_in prices.now t) most_unit_price }
     ensures { IfOk result (λ pins. pins.items ≡ map (pin_of prices.now) (range_with_len 0 (length prices.now))) }
 {
     let mut pins = Vec::new(alloc);
@@ -54,7 +53,7 @@ pub fn best_counts(
 ) -> Result<BestCounts, OutOfMemory>
     requires market { IsUnitMarket market.now }
     requires as_many { length prices.now ≡ length market.now.trades.items }
-    requires small { (t : ℕ) → t < length prices.now → IsAtMost (price_in prices.now t) most_each }
+    requires small { (t : ℕ) → t < length prices.now → IsAtMost (price_in prices.now t) most_unit_price }
     ensures sold { IfOk result (λ best. length best.sold.items ≡ length market.now.trades.items) }
     ensures bought { IfOk result (λ best. length best.bought.items ≡ length market.now.trades.items) }
     ensures best { IfOk result (λ best. (f : ℕ) → f < market.now.firms → (value : ℤ)
@@ -72,7 +71,7 @@ pub(crate) fn best_wide(
 ) -> Result<BestCounts, OutOfMemory>
     requires market { IsWideMarket market.now }
     requires as_many { length prices.now ≡ length market.now.trades.items }
-    requires small { (t : ℕ) → t < length prices.now → IsAtMost (price_in prices.now t) most_each }
+    requires small { (t : ℕ) → t < length prices.now → IsAtMost (price_in prices.now t) most_unit_price }
     ensures sold { IfOk result (λ best. length best.sold.items ≡ length market.now.trades.items) }
     ensures bought { IfOk result (λ best. length best.bought.items ≡ length market.now.trades.items) }
     ensures best { IfOk result (λ best. (f : ℕ) → f < market.now.firms → (value : ℤ)

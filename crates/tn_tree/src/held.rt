@@ -3,13 +3,12 @@
 ghost use Rattle.std.specs.Prelude.{◌≡◌, ℕ, ◌+◌, ◌<◌, ◌≤◌, suc, ℤ, pos, ◌+ℤ◌, ◌-ℤ◌, ◌*ℤ◌, length, map, get_or, slice_get, Some, None, IfOk, option_map};
 ghost use Rattle.std.specs.List.{range_with_len};
 ghost use Rattle.tn_base.specs.Arcs.{IsAtMost};
-ghost use Rattle.tn_links.specs.Widths.{most_each};
 ghost use Rattle.tn_counts.specs.Counts.{AreCounts, trade_at};
 ghost use Rattle.tn_counts.specs.Laminar.{amounts_at, firm_of};
 ghost use Rattle.tn_counts.specs.Markets.{IsUnitMarket, IsWideMarket};
 ghost use Rattle.tn_counts.specs.Tree.{null_node};
 ghost use Rattle.tn_counts.specs.declared.trade.UnitAmounts.{UnitAmounts};
-ghost use Rattle.tn_counts.specs.Widths.{most_unit_surplus, most_wide_trades};
+ghost use Rattle.tn_counts.specs.Widths.{most_unit_price, most_unit_surplus, most_wide_trades};
 ghost use Rattle.tn_tree.specs.declared.held.FirmCount.{FirmCount};
 ghost use Rattle.tn_tree.specs.Held.{AreKept, AreSmallValues, AreValues, IsHeld, IsHeldAt, IsKept, firm_count, gain_at};
 ghost use Rattle.tn_tree.specs.Lists.{count_in, own_counts, price_in, rate_of};
@@ -47,7 +46,7 @@ pub struct HeldCounts {
 /// Prices as amounts: a unit adds its price to what its seller has, and takes it from its buyer.
 fn rates_of(alloc: Global, prices: &[i64]) -> Result<Vec<UnitAmounts>, OutOfMemory>
     requires few { length prices.now ≤ most_wide_trades }
-    requires small { (t : ℕ) → t < length prices.now → IsAtMost (price_in prices.now t) most_each }
+    requires small { (t : ℕ) → t < length prices.now → IsAtMost (price_in prices.now t) most_unit_price }
     ensures { IfOk result (λ rates. rates.items ≡ map (rate_of prices.now) (range_with_len 0 (length prices.now))) }
 {
     let mut rates = Vec::new(alloc);
@@ -244,7 +243,7 @@ fn values_of(
     requires nodes { links.now.nodes ≡ suc (null_node market.now) }
     requires as_many { length rates.now ≡ length market.now.trades.items }
     requires small { (t : ℕ) (each : UnitAmounts) → slice_get rates.now t ≡ Some each
-        → IsAtMost each.seller most_each × IsAtMost each.buyer most_each }
+        → IsAtMost each.seller most_unit_price × IsAtMost each.buyer most_unit_price }
     requires sold_all { length sold.now ≡ length market.now.trades.items }
     requires bought_all { length bought.now ≡ length market.now.trades.items }
     requires sold { AreCounts market.now.trades.items (count_in sold.now) }
@@ -276,7 +275,7 @@ pub fn hold_wide(
     requires counted { length counts.now ≡ length market.now.trades.items }
     requires within { AreCounts market.now.trades.items (count_in counts.now) }
     requires priced { length prices.now ≡ length market.now.trades.items }
-    requires small { (t : ℕ) → t < length prices.now → IsAtMost (price_in prices.now t) most_each }
+    requires small { (t : ℕ) → t < length prices.now → IsAtMost (price_in prices.now t) most_unit_price }
     ensures firms { IfOk result (λ held. length held.firms.items ≡ market.now.firms) }
     ensures sold { IfOk result (λ held. length held.best.sold.items ≡ length market.now.trades.items) }
     ensures bought { IfOk result (λ held. length held.best.bought.items ≡ length market.now.trades.items) }
@@ -307,7 +306,7 @@ pub fn hold_counts(
     requires counted { length counts.now ≡ length market.now.trades.items }
     requires within { AreCounts market.now.trades.items (count_in counts.now) }
     requires priced { length prices.now ≡ length market.now.trades.items }
-    requires small { (t : ℕ) → t < length prices.now → IsAtMost (price_in prices.now t) most_each }
+    requires small { (t : ℕ) → t < length prices.now → IsAtMost (price_in prices.now t) most_unit_price }
     ensures firms { IfOk result (λ held. length held.firms.items ≡ market.now.firms) }
     ensures sold { IfOk result (λ held. length held.best.sold.items ≡ length market.now.trades.items) }
     ensures bought { IfOk result (λ held. length held.best.bought.items ≡ length market.now.trades.items) }

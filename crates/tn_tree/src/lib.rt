@@ -2,6 +2,7 @@
 #![tactic(auto)]
 
 mod around;
+mod beside;
 mod best;
 mod build;
 mod flow;
@@ -16,6 +17,7 @@ mod support;
 mod surplus;
 mod worths;
 
+pub use beside::{SettledBeside, settle_beside};
 pub use best::{BestCounts, best_counts};
 pub use held::{FirmCount, HeldCounts, hold_counts, hold_wide};
 pub use pinned::{PinnedSupport, support_beside};

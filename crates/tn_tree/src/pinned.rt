@@ -1,11 +1,12 @@
 //! Prices for given counts where the prices of some trades are given.
 
-ghost use Rattle.std.specs.Prelude.{◌≡◌, ℕ, length, IfOk};
+ghost use Rattle.std.specs.Prelude.{◌≡◌, ℕ, ◌+◌, ◌<◌, ◌≤◌, length, map, IfOk};
+ghost use Rattle.std.specs.List.{range_with_len};
 ghost use Rattle.tn_counts.specs.Counts.{AreCounts};
 ghost use Rattle.tn_counts.specs.Markets.{ArePins, IsWideMarket};
 ghost use Rattle.tn_tree.specs.Levels.{ArePossible};
 ghost use Rattle.tn_tree.specs.Lists.{count_in};
-ghost use Rattle.tn_tree.specs.Pinned.{SupportsBeside};
+ghost use Rattle.tn_tree.specs.Pinned.{MarksTrades, SupportsBeside};
 
 use crate::around::trade_node;
 use crate::build::links_of;
@@ -22,14 +23,49 @@ use tn_links::unit_labels;
 pub enum PinnedSupport {
     /// Prices of a unit of each trade, the given ones among them, with which the counts are an equilibrium.
     Supported { prices: Vec<i128> },
-    /// No prices beside the given ones make the counts an equilibrium, over any denominator.
-    Unsupported,
+    /// No prices beside the given ones make the counts an equilibrium, over any denominator: with a unit of each trade that
+    /// is passed on, by number, all firms together gain at any such prices.
+    Unsupported { passed: Vec<u32> },
+}
+
+/// No marks.
+fn no_marks(alloc: Global, trades: u32) -> Result<Vec<u32>, OutOfMemory>
+    ensures { IfOk result (λ passed. passed.items ≡ map (λ t. 0) (range_with_len 0 trades)) }
+{
+    let mut passed = Vec::new(alloc);
+    for _ in 0..trades {
+        passed.push(0)?;
+    }
+    Ok(passed)
+}
+
+/// Marks the trade of a node, where it is one of a trade.
+fn mark(passed: &mut [u32], first: u32, node: u32)
+    ensures sized { length passed.new ≡ length passed.old }
+    ensures single { ((t : ℕ) → count_in passed.old t ≤ 1) → (t : ℕ) → count_in passed.new t ≤ 1 }
+    ensures kept { (t : ℕ) → count_in passed.old t ≡ 1 → count_in passed.new t ≡ 1 }
+    ensures own { (t : ℕ) → t < length passed.old → node ≡ first + t → count_in passed.new t ≡ 1 }
+{
+    if first <= node && ((node - first) as usize) < passed.len() {
+        passed[(node - first) as usize] = 1;
+    }
+}
+
+/// Marks the trades whose nodes are listed.
+fn marked(alloc: Global, first: u32, trades: u32, listed: &[u32]) -> Result<Vec<u32>, OutOfMemory>
+    ensures { IfOk result (λ passed. MarksTrades first trades listed.now passed.items) }
+{
+    let mut passed = no_marks(alloc, trades)?;
+    for node in listed {
+        mark(&mut passed, first, *node);
+    }
+    Ok(passed)
 }
 
 /// Finds prices that make these counts an equilibrium and are those of the pins on their trades, exactly where there are
 /// any. Where there are none, each firm makes its own steps of a negative cycle: trades that aren't pinned pass from one
 /// firm to the next, pinned ones are paid at their price by each side for itself, and all firms together gain at any
-/// prices. The counts are possible for each firm. It fails only where memory runs out.
+/// prices. The trades on the cycle are those that are passed on. The counts are possible for each firm. It fails only where memory runs out.
 pub fn support_beside(
     alloc: Global,
     market: &UnitMarket,
@@ -51,6 +87,13 @@ pub fn support_beside(
         Labels::Feasible => Ok(PinnedSupport::Supported {
             prices: prices_by(alloc, market, &finder)?,
         }),
-        Labels::Negative { .. } => Ok(PinnedSupport::Unsupported),
+        Labels::Negative { .. } => Ok(PinnedSupport::Unsupported {
+            passed: marked(
+                alloc,
+                trade_node(market, 0),
+                market.trades.len() as u32,
+                finder.listed(),
+            )?,
+        }),
     }
 }

@@ -4,12 +4,12 @@ ghost use Rattle.std.specs.Prelude.{◌≡◌, ℕ, suc, ◌+◌, ◌<◌, ◌�
 ghost use Rattle.std.specs.List.{range_with_len};
 ghost use Rattle.tn_base.specs.Arcs.{IsAtMost};
 ghost use Rattle.tn_base.specs.Options.{both};
-ghost use Rattle.tn_links.specs.Widths.{most_each, most_rise};
+ghost use Rattle.tn_links.specs.Widths.{most_rise};
 ghost use Rattle.tn_counts.specs.Counts.{AreCounts};
 ghost use Rattle.tn_counts.specs.Laminar.{added_at, amount_sum, firm_of};
 ghost use Rattle.tn_counts.specs.Markets.{IsSetWithin, IsWideMarket};
 ghost use Rattle.tn_counts.specs.Tree.{null_node};
-ghost use Rattle.tn_counts.specs.Widths.{most_market_units, most_set_units};
+ghost use Rattle.tn_counts.specs.Widths.{most_market_units, most_set_units, most_wide_amount};
 ghost use Rattle.tn_counts.specs.declared.trade.UnitAmounts.{UnitAmounts};
 ghost use Rattle.tn_tree.specs.Lists.{count_in, own_counts};
 ghost use Rattle.tn_tree.specs.Nets.{HaveTree, most_count_worth, most_set_number, most_sum};
@@ -22,7 +22,7 @@ use tn_links::{Links, rise, room};
 
 /// What so many units add.
 fn times(each: i64, units: u32) -> i128
-    requires { IsAtMost each most_each }
+    requires { IsAtMost each most_wide_amount }
     ensures { result ≡ each *ℤ pos units }
 {
     i128::from(each) * i128::from(units)
@@ -32,7 +32,7 @@ fn times(each: i64, units: u32) -> i128
 fn add_units(numbers: &mut Vec<i128>, place: u32, each: i64, units: u32)
     requires inside { place < length numbers.old.items }
     requires before { IsAtMost (get_or numbers.old.items place (pos 0)) most_sum }
-    requires small { IsAtMost each most_each }
+    requires small { IsAtMost each most_wide_amount }
     ensures { numbers.new.items
         ≡ set numbers.old.items place (get_or numbers.old.items place (pos 0) +ℤ each *ℤ pos units) }
 {
@@ -50,7 +50,7 @@ pub(crate) fn amount_sums(
     requires market { IsWideMarket market.now }
     requires as_many { length amounts.now ≡ length market.now.trades.items }
     requires small { (t : ℕ) (each : UnitAmounts) → slice_get amounts.now t ≡ Some each
-        → IsAtMost each.seller most_each × IsAtMost each.buyer most_each }
+        → IsAtMost each.seller most_wide_amount × IsAtMost each.buyer most_wide_amount }
     requires sold_all { length sold.now ≡ length market.now.trades.items }
     requires bought_all { length bought.now ≡ length market.now.trades.items }
     requires sold { AreCounts market.now.trades.items (count_in sold.now) }
@@ -86,7 +86,7 @@ fn level_from(net: i128, back: u32) -> Option<u32>
 
 /// A constant, and what a gain has risen by.
 fn risen(constant: i64, after: i128, before: i128) -> i128
-    requires constant { IsAtMost constant most_each }
+    requires constant { IsAtMost constant most_wide_amount }
     requires after { IsAtMost after most_rise }
     requires before { IsAtMost before most_rise }
     ensures { result ≡ constant +ℤ (after -ℤ before) }
@@ -96,7 +96,7 @@ fn risen(constant: i64, after: i128, before: i128) -> i128
 
 /// What a set adds at a net count, None where that lies beyond its steps.
 fn number_at(set: &CountSet, net: i128) -> Option<i128>
-    requires set { (firms : ℕ) × IsSetWithin most_each firms set.now }
+    requires set { (firms : ℕ) × IsSetWithin most_wide_amount firms set.now }
     requires small { IsAtMost net most_market_units }
     ensures number { result ≡ added_at set.now (net +ℤ pos set.now.back) }
     ensures small { (value : ℤ) → result ≡ Some value → IsAtMost value most_set_number }

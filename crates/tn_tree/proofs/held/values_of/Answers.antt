@@ -1,12 +1,20 @@
 -- What shows the clauses of `values_of` of `src/held.rt`.
 use Rattle.std.proofs.Common.{◌∙◌, List, length, sym, ap, ap₂, arith, ℤ, pos, ◌+ℤ◌, ◌*ℤ◌, get_or, Option, None, option_map}
+use Rattle.std.proofs.lemmas.Int.{ints}
 use Rattle.std.proofs.lemmas.Option.{slice_get-get_or}
-use Rattle.tn_links.specs.Widths.{most_each}
+use Rattle.tn_counts.specs.Widths.{most_unit_price}
 use Rattle.tn_counts.specs.Laminar.{amounts_at}
 use Rattle.tn_tree.proofs.FirmLemmas.{amounts_small}
 use Rattle.tn_tree.proofs.HeldLemmas.{paid_small, utilities_small}
 use Rattle.tn_tree.proofs.SolveLemmas.{read_at, sized_by}
 use Rattle.tn_tree.proofs.held.values_of.Goals as goal
+
+pub amount_sums-requires-clause-small : goal.amount_sums-requires-clause-small
+amount_sums-requires-clause-small c = λ t each at.
+    let small = c.requires.small t each at in (
+      record { low = omega (arith, ints, small.0.low); high = omega (arith, ints, small.0.high) },
+      record { low = omega (arith, ints, small.1.low); high = omega (arith, ints, small.1.high) },
+    )
 
 pub utilities-requires-clause-worths : goal.utilities-requires-clause-worths
 utilities-requires-clause-worths c = λ f value is.
@@ -17,7 +25,7 @@ utilities-requires-clause-paid c = λ f.
     let same = ap (λ (xs : List ℤ). get_or xs f (pos 0)) c.deref-2.ensures.value in
     let sum = c.in_ok-paid.ensures.sums f in
     let sized = c.requires.as_many in
-    let small = amounts_small c.args.market.now c.args.rates.now c.args.sold.now c.args.bought.now f most_each
+    let small = amounts_small c.args.market.now c.args.rates.now c.args.sold.now c.args.bought.now f most_unit_price
     c.requires.market (λ t below. c.requires.small t (amounts_at c.args.rates.now t)
     (slice_get-get_or c.args.rates.now t (record { seller = pos 0; buyer = pos 0 }) (omega (arith, below, sized))))
     c.requires.sold c.requires.bought in
@@ -56,7 +64,7 @@ returns-clause-small_utilities c =
     (λ f.
     let same = ap (λ (xs : List ℤ). get_or xs f (pos 0)) c.deref-2.ensures.value in
     let sum = c.in_ok-paid.ensures.sums f in
-    let small = amounts_small c.args.market.now c.args.rates.now c.args.sold.now c.args.bought.now f most_each
+    let small = amounts_small c.args.market.now c.args.rates.now c.args.sold.now c.args.bought.now f most_unit_price
     c.requires.market (λ t below. c.requires.small t (amounts_at c.args.rates.now t)
     (slice_get-get_or c.args.rates.now t (record { seller = pos 0; buyer = pos 0 }) (omega (arith, below, sized))))
     c.requires.sold c.requires.bought in

@@ -1,11 +1,8 @@
 -- What shows the clauses of `range_market` of `src/range.rt`.
 use Rattle.std.proofs.Common.{◌≡◌, ℕ, ◌+◌, List, get_or, map, refl, ap, ◌∙◌, subst, arith}
-use Rattle.std.specs.Prelude.{IfSome}
 use Rattle.std.specs.List.{range_with_len}
-use Rattle.tn_base.specs.Arcs.{IsAtMost}
 use Rattle.tn_counts.specs.Tree.{trade_node}
-use Rattle.tn_counts.specs.Widths.{most_unit_price}
-use Rattle.tn_cycle.specs.Answers.{distance_in, label_in}
+use Rattle.tn_cycle.specs.Answers.{label_in}
 use Rattle.tn_tree.specs.Ranges.{AreWalks}
 use Rattle.tn_tree.proofs.RangeLemmas.{found_by, labels_lent, ranges_are, ranges_small, walks_read}
 use Rattle.tn_tree.proofs.range.range_market.Goals as goal

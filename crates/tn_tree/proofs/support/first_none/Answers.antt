@@ -1,5 +1,5 @@
 -- What shows the clauses of `first_none` of `src/support.rt`.
-use Rattle.std.proofs.Common.{◌≡◌, ℕ, ◌<◌, ℤ, Option, None, Some, false, get_or, refl, sym, ap, ◌∙◌, subst, arith, inl, inr}
+use Rattle.std.proofs.Common.{◌≡◌, ℕ, ℤ, Option, None, Some, false, get_or, refl, sym, ap, ◌∙◌, arith, inl, inr}
 use Rattle.std.specs.Prelude.{is_none}
 use Rattle.std.proofs.lemmas.Bool.{cases_eq, true≢false}
 use Rattle.tn_tree.proofs.support.first_none.Goals as goal

@@ -1,5 +1,5 @@
 -- What shows the clauses of `support_counts` of `src/support.rt`.
-use Rattle.std.proofs.Common.{List, Option, None, Some, ℤ, ℕ, subst, sym}
+use Rattle.std.proofs.Common.{List, Option, None, Some, ℤ, subst}
 use Rattle.tn_tree.specs.Supports.{FindsNone}
 use Rattle.tn_tree.proofs.SupportLemmas.{possible_by, unable_by}
 use Rattle.tn_tree.proofs.support.support_counts.Goals as goal

@@ -6,7 +6,7 @@ use mir.Syntax.{w64, w128}
 use mir.Val.{SFits}
 use Rattle.tn_base.specs.Arcs.{IsAtMost}
 use Rattle.tn_links.specs.RiseLemmas.{times_small}
-use Rattle.tn_links.specs.Widths.{most_each}
+use Rattle.tn_counts.specs.Widths.{most_wide_amount}
 use Rattle.tn_tree.specs.Nets.{most_sum}
 use Rattle.tn_tree.proofs.worths.add_units.Goals as goal
 
@@ -14,7 +14,7 @@ pub add_at-requires-clause-more : goal.add_at-requires-clause-more
 add_at-requires-clause-more c =
     let each = c.requires.small in
     let fit_each : SFits w64 c.args.each = omega (arith, ints, each.low, each.high) in
-    let small = times_small c.args.each c.args.units most_each c.requires.small in
+    let small = times_small c.args.each c.args.units most_wide_amount c.requires.small in
     let units = c.ranges.units.fits in
     let is : c.times.result ≡ c.args.each *ℤ pos c.args.units = simp to_z-of_z at c.times.ensures in
     let fits : SFits w128 c.times.result = omega (arith, ints, small.low, small.high, units, is) in
@@ -28,7 +28,7 @@ pub returns : goal.returns
 returns c =
     let each = c.requires.small in
     let fit_each : SFits w64 c.args.each = omega (arith, ints, each.low, each.high) in
-    let small = times_small c.args.each c.args.units most_each c.requires.small in
+    let small = times_small c.args.each c.args.units most_wide_amount c.requires.small in
     let units = c.ranges.units.fits in
     let is : c.times.result ≡ c.args.each *ℤ pos c.args.units = simp to_z-of_z at c.times.ensures in
     let fits : SFits w128 c.times.result = omega (arith, ints, small.low, small.high, units, is) in

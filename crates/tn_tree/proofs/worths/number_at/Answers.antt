@@ -5,19 +5,24 @@ use Rattle.std.proofs.lemmas.Option.{same_Some}
 use mir.Syntax.{w64, w128}
 use mir.Val.{SFits}
 use Rattle.tn_base.specs.Arcs.{IsAtMost}
-use Rattle.tn_links.specs.Widths.{most_each}
 use Rattle.tn_links.specs.declared.link.Step.{Step}
-use Rattle.tn_links.specs.Links.{AreSlight, rise, room}
+use Rattle.tn_links.specs.Links.{AddAtMost, AreSlight, rise, room}
+use Rattle.tn_counts.specs.Widths.{most_wide_amount}
 use Rattle.tn_tree.specs.Nets.{most_set_number}
 use Rattle.tn_counts.proofs.WorthLemmas.{added_there}
 use Rattle.tn_tree.proofs.FirmLemmas.{number_small}
 use Rattle.tn_tree.proofs.worths.number_at.Goals as goal
 
+-- what a step of a wide market adds is what links take
+slight : (steps : List Step) → AddAtMost most_wide_amount steps → AreSlight steps
+slight steps small k step at =
+    let own = small k step at in record { low = omega (arith, ints, own.low); high = omega (arith, ints, own.high) }
+
 pub rise-requires : goal.rise-requires
-rise-requires c = subst AreSlight (sym c.deref-2.ensures.value) c.requires.set.1.small
+rise-requires c = subst AreSlight (sym c.deref-2.ensures.value) (slight c.args.set.now.steps.items c.requires.set.1.small)
 
 pub rise-requires-2 : goal.rise-requires-2
-rise-requires-2 c = subst AreSlight (sym c.deref-3.ensures.value) c.requires.set.1.small
+rise-requires-2 c = subst AreSlight (sym c.deref-3.ensures.value) (slight c.args.set.now.steps.items c.requires.set.1.small)
 
 pub returns-clause-number : goal.returns-clause-number
 returns-clause-number c =
@@ -62,7 +67,7 @@ returns-clause-small c =
     let room_is = c.room.ensures ∙ ap room c.deref.ensures.value in
     let within : c.in_ok-level.level ≤ room set.steps.items =
     let test = c.if-room-level.false in omega (arith, test, room_is) in
-    let own = number_small most_each c.requires.set.0 set c.in_ok-level.level c.requires.set.1 within in
+    let own = number_small most_wide_amount c.requires.set.0 set c.in_ok-level.level c.requires.set.1 within in
     let whole : c.risen.result
     ≡ set.constant +ℤ (rise set.steps.items c.in_ok-level.level -ℤ rise set.steps.items set.back) =
     omega (arith, ints, is, up, down) in

@@ -8,21 +8,20 @@ use mir.Syntax.{w128}
 use mir.Val.{SFits}
 use Rattle.tn_base.specs.Arcs.{IsAtMost}
 use Rattle.tn_base.specs.Options.{both}
-use Rattle.tn_links.specs.Widths.{most_each}
 use Rattle.tn_counts.specs.Laminar.{amount_sum, set_sum}
-use Rattle.tn_counts.specs.Widths.{most_market_units}
+use Rattle.tn_counts.specs.Widths.{most_market_units, most_wide_amount}
 use Rattle.tn_counts.specs.declared.trade.UnitAmounts.{UnitAmounts}
 use Rattle.tn_tree.specs.Lists.{own_counts}
 use Rattle.tn_tree.specs.Nets.{net_at}
-use Rattle.tn_tree.proofs.FirmLemmas.{amounts_small, number_is, slight_amounts, small_amounts, small_step, some_at, some_is, worth_step}
+use Rattle.tn_tree.proofs.FirmLemmas.{amounts_small, number_is, wide_amounts, small_amounts, small_step, some_at, some_is, worth_step}
 use Rattle.tn_tree.proofs.NetLemmas.{net_small}
 use Rattle.tn_tree.proofs.worths.worths_by.Goals as goal
 
 pub amount_sums-requires-clause-small : goal.amount_sums-requires-clause-small
 amount_sums-requires-clause-small c =
     subst (λ (amounts : List UnitAmounts). (t : ℕ) (each : UnitAmounts) → slice_get amounts t ≡ Some each
-    → IsAtMost each.seller most_each × IsAtMost each.buyer most_each) (sym c.deref.ensures.value)
-    (slight_amounts c.args.market.now.amounts.items c.requires.market.small)
+    → IsAtMost each.seller most_wide_amount × IsAtMost each.buyer most_wide_amount) (sym c.deref.ensures.value)
+    (wide_amounts c.args.market.now.amounts.items c.requires.market.small)
 
 pub some_of-requires : goal.some_of-requires
 some_of-requires c = λ v.
@@ -30,7 +29,7 @@ some_of-requires c = λ v.
     let sum = c.in_ok-amounts.ensures.sums v ∙ ap (λ (amounts : List UnitAmounts). amount_sum c.args.market.now.trades.items
     amounts v (own_counts c.args.market.now.trades.items c.args.sold.now c.args.bought.now v)) c.deref.ensures.value in
     let small = amounts_small c.args.market.now c.args.market.now.amounts.items c.args.sold.now c.args.bought.now v
-    most_each c.requires.market (small_amounts c.args.market.now c.requires.market) c.requires.sold
+    most_wide_amount c.requires.market (small_amounts c.args.market.now c.requires.market) c.requires.sold
     c.requires.bought in
     record {
       low = omega (arith, ints, same, sum, small.low);
@@ -60,7 +59,7 @@ loop-i-init c =
           c.args.market.now.trades.items amounts f
           (own_counts c.args.market.now.trades.items c.args.sold.now c.args.bought.now f)) c.deref.ensures.value in
           let small = amounts_small c.args.market.now c.args.market.now.amounts.items c.args.sold.now c.args.bought.now f
-          most_each c.requires.market (small_amounts c.args.market.now c.requires.market) c.requires.sold
+          most_wide_amount c.requires.market (small_amounts c.args.market.now c.requires.market) c.requires.sold
           c.requires.bought in
           record {
             low = omega (arith, ints, value, read, sum, small.low);

@@ -14,5 +14,5 @@ invariant-loop-i l = record {
       (set_sum l.market.trades.items f (own_counts l.market.trades.items l.sold l.bought f) (drop l.i l.market.sets.items))
       ≡ (firm_of l.market f).worth (own_counts l.market.trades.items l.sold l.bought f);
   small : (f : ℕ) (worth : ℤ) → get_or l.worths.items f None ≡ Some worth
-      → IsAtMost worth (209715200000000000 + l.i * most_set_number);
+      → IsAtMost worth (20971520000000000000 + l.i * most_set_number);
 }
