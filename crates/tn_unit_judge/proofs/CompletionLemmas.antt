@@ -12,6 +12,7 @@ use Rattle.std.proofs.lemmas.Option.{get_or_from_slice_get, none-some, slice_get
 use Rattle.std.proofs.Math.IntN.{*ℤ-one, *ℤ-zero, *ℤ_comm}
 use Rattle.tn_base.specs.Arcs.{IsAtMost}
 use Rattle.tn_links.proofs.TotalLemmas.{total-same}
+use Rattle.tn_links.specs.Widths.{most_each}
 use Rattle.tn_counts.specs.Counts.{AreCounts, CountFirm, IsBestCount, IsEquilibriumByCounts, count_utility, paid_to, payments, trade_at}
 use Rattle.tn_counts.specs.Laminar.{firm_of, firms_of}
 use Rattle.tn_counts.specs.Markets.{ArePins, IsUnitMarket}
@@ -36,7 +37,7 @@ use Rattle.tn_unit_judge.proofs.TwinLemmas.{twins_same}
 
 -- ---- contracts whose prices are counted many times
 
-counted_sized : (e : ℤ) (contracts : List UnitContract) → length (counted e contracts) ≡ length contracts
+pub counted_sized : (e : ℤ) (contracts : List UnitContract) → length (counted e contracts) ≡ length contracts
 counted_sized e contracts =
     length-map contracts (λ contract. record { trade = contract.trade; units = contract.units; price = e *ℤ contract.price })
 
@@ -46,7 +47,7 @@ counted_units e [] k = refl
 counted_units e (contract ∷ contracts) zero = refl
 counted_units e (contract ∷ contracts) (suc k) = counted_units e contracts k
 
-counted_price : (e : ℤ) (contracts : List UnitContract) (k : ℕ) → k < length contracts
+pub counted_price : (e : ℤ) (contracts : List UnitContract) (k : ℕ) → k < length contracts
     → (contract_at (counted e contracts) k).price ≡ e *ℤ (contract_at contracts k).price
 counted_price e [] k below = absurd (omega (arith, below))
 counted_price e (contract ∷ contracts) zero below = refl
@@ -139,13 +140,13 @@ best_priced trades scale prices others f firm counts value same best = record {
         (total-same (λ t. paid_to f (prices t) (trade_at trades t) *ℤ pos (c t))
         (λ t. paid_to f (others t) (trade_at trades t) *ℤ pos (c t)) (length trades) (each c inside))
 
-beside_signed : (contracts : List UnitContract) (prices : ℕ → ℤ) (k : ℕ) → k < length contracts
+pub beside_signed : (contracts : List UnitContract) (prices : ℕ → ℤ) (k : ℕ) → k < length contracts
     → prices_beside contracts prices k ≡ (contract_at contracts k).price
 beside_signed contracts prices k below =
     ap (λ (b : Bool). if b then (contract_at contracts k).price else prices (k - length contracts))
     (lt-ltb k (length contracts) below)
 
-beside_free : (contracts : List UnitContract) (prices : ℕ → ℤ) (k : ℕ) → length contracts ≤ k
+pub beside_free : (contracts : List UnitContract) (prices : ℕ → ℤ) (k : ℕ) → length contracts ≤ k
     → prices_beside contracts prices k ≡ prices (k - length contracts)
 beside_free contracts prices k past =
     ap (λ (b : Bool). if b then (contract_at contracts k).price else prices (k - length contracts))
@@ -187,7 +188,7 @@ completes_same firms trades over contracts prices others same completes f firm a
 
 -- ---- pins
 
-pin_read : (contracts : List UnitContract) (k : ℕ) (pin : Pin) → slice_get (contract_pins contracts) k ≡ Some pin
+pub pin_read : (contracts : List UnitContract) (k : ℕ) (pin : Pin) → slice_get (contract_pins contracts) k ≡ Some pin
     → (k < length contracts) × (pin ≡ contract_pin contracts k)
 pin_read contracts k pin at =
     let inside = slice_get_within (contract_pins contracts) k pin at in
@@ -200,7 +201,7 @@ pin_read contracts k pin at =
     )
 
 pub contracts_pin : (n : ℕ) (contracts : List UnitContract)
-    → ((k : ℕ) (contract : UnitContract) → slice_get contracts k ≡ Some contract → IsAtMost contract.price most_unit_price)
+    → ((k : ℕ) (contract : UnitContract) → slice_get contracts k ≡ Some contract → IsAtMost contract.price most_each)
     → length contracts ≤ n → ArePins n (contract_pins contracts)
 contracts_pin n contracts small few = record {
   few = let long = length-map-range_with_len (contract_pin contracts) 0 (length contracts) in omega (arith, long, few);
@@ -223,7 +224,7 @@ contracts_pin n contracts small few = record {
 
 -- ---- the split network of which all unsigned units are free
 
-one_of : (z : ℤ) → pos 1 *ℤ z ≡ z
+pub one_of : (z : ℤ) → pos 1 *ℤ z ≡ z
 one_of z = let turned = *ℤ_comm (pos 1) z in let unit = *ℤ-one z in omega (arith, ints, turned, unit)
 
 module _ (market : UnitMarket) (over : ℕ) (contracts : List UnitContract) (split : UnitMarket)

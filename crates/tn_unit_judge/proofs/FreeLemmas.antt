@@ -24,7 +24,7 @@ use Rattle.tn_unit_judge.specs.Served.{AreServedContracts}
 abbrev pub units_on : UnitContract → ℕ → ℕ
 units_on contract t = if contract.trade == t then contract.units else 0
 
-signed_cons : (contract : UnitContract) (contracts : List UnitContract) (t : ℕ)
+pub signed_cons : (contract : UnitContract) (contracts : List UnitContract) (t : ℕ)
     → signed_units (contract ∷ contracts) t ≡ units_on contract t + signed_units contracts t
 signed_cons contract contracts t = by (contract.trade == t) refl
   where

@@ -87,7 +87,7 @@ signed_from contracts counts i t =
 abbrev pub AreKnown : ℕ → List UnitContract → Type 0
 AreKnown n contracts = (k : ℕ) (contract : UnitContract) → slice_get contracts k ≡ Some contract → contract.trade < n
 
-signed_sum : (r : ℕ → ℤ) (counts : ℕ → ℕ) (n : ℕ) (contracts : List UnitContract) (i : ℕ) → AreKnown n contracts
+pub signed_sum : (r : ℕ → ℤ) (counts : ℕ → ℕ) (n : ℕ) (contracts : List UnitContract) (i : ℕ) → AreKnown n contracts
     → total (λ t. r t *ℤ pos (signed_from contracts counts i t)) n
     ≡ total (λ k. r (contract_at contracts k).trade *ℤ pos (counts (i + k))) (length contracts)
 unfolding total

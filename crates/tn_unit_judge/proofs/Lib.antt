@@ -7,3 +7,9 @@ pub mod DropLemmas
 pub mod FreeLemmas
 pub mod TwinLemmas
 pub mod CompletionLemmas
+pub mod TaxLemmas
+pub mod BlockLemmas
+pub mod ChoiceLemmas
+pub mod OfferLemmas
+pub mod GainLemmas
+pub mod CauseLemmas

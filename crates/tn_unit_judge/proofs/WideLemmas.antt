@@ -11,13 +11,12 @@ use Rattle.tn_links.specs.declared.link.Step.{Step}
 use Rattle.tn_links.specs.Links.{AddAtMost, AreFalling, room}
 use Rattle.tn_links.specs.RiseLemmas.{times_small, times_suc}
 use Rattle.tn_links.specs.Totals.{total}
-use Rattle.tn_links.specs.Widths.{most_each}
 use Rattle.tn_links.proofs.TotalLemmas.{total-most, total-same}
 use Rattle.tn_counts.specs.Counts.{trade_at}
 use Rattle.tn_counts.specs.Laminar.{amounts_at}
-use Rattle.tn_counts.specs.Markets.{AreAmountsWithin, AreLaminar, IsBetween, IsSetWithin, IsUnitMarket, IsWideMarket}
+use Rattle.tn_counts.specs.Markets.{AreAmountsWithin, AreLaminar, IsBetween, IsMarketWithin, IsSetWithin, IsUnitMarket, IsWideMarket}
 use Rattle.tn_counts.specs.Outcomes.{joined, signed_units, split_trades}
-use Rattle.tn_counts.specs.Widths.{most_unit_amount, most_unit_trades}
+use Rattle.tn_counts.specs.Widths.{most_unit_amount, most_unit_trades, most_wide_amount, most_wide_trades}
 use Rattle.tn_counts.specs.declared.contract.UnitContract.{UnitContract}
 use Rattle.tn_counts.specs.declared.market.UnitMarket.{UnitMarket}
 use Rattle.tn_counts.specs.declared.set.CountSet.{CountSet}
@@ -27,7 +26,7 @@ use Rattle.tn_counts.proofs.NetLemmas.{between_at}
 use Rattle.tn_counts.proofs.PlaceLemmas.{item_at}
 use Rattle.tn_counts.proofs.SmallLemmas.{units_total}
 use Rattle.tn_tree.proofs.FirmLemmas.{small_amounts}
-use Rattle.tn_unit_judge.specs.Split.{IsSplitMarket, IsSplitSet, origins, times_amounts, times_step}
+use Rattle.tn_unit_judge.specs.Split.{IsSplitMarket, IsSplitSet, most_split_amount, most_split_over, origins, times_amounts, times_step}
 use Rattle.tn_unit_judge.proofs.JoinLemmas.{AreKnown, joined_sum, origins_known, origins_sized, signed_is}
 use Rattle.tn_unit_judge.proofs.SplitLemmas.{room_times, split_ends, split_free, split_signed, split_sized}
 
@@ -38,14 +37,14 @@ map_item f [] k y at = absurd (none-some y at)
 map_item f (x ∷ xs) zero y at = (x, refl, same_Some (f x) y at)
 map_item f (x ∷ xs) (suc k) y at = map_item f xs k y at
 
--- numbers that are counted at most a hundred times
-times_within : (over : ℕ) (z : ℤ) → over ≤ 100 → IsAtMost z most_unit_amount → IsAtMost (pos over *ℤ z) most_each
+-- numbers that are counted so often
+times_within : (over : ℕ) (z : ℤ) → over ≤ most_split_over → IsAtMost z most_unit_amount → IsAtMost (pos over *ℤ z) most_split_amount
 times_within over z few small =
     let most = times_small z over most_unit_amount small in
     let turned = *ℤ_comm (pos over) z in
     record { low = omega (arith, ints, most.low, turned, few); high = omega (arith, ints, most.high, turned, few) }
 
-times_most : (n : ℕ) (a b : ℤ) → b ≤ℤ a → (b *ℤ pos n) ≤ℤ (a *ℤ pos n)
+pub times_most : (n : ℕ) (a b : ℤ) → b ≤ℤ a → (b *ℤ pos n) ≤ℤ (a *ℤ pos n)
 times_most zero a b below =
     let first = *ℤ-zero a in let second = *ℤ-zero b in omega (arith, ints, first, second)
 times_most (suc n) a b below =
@@ -65,15 +64,47 @@ falling_times over steps falling i k a b order at_i at_k =
     let right = *ℤ_comm (pos over) second.0.each in
     omega (arith, ints, most, one, two, left, right)
 
-small_times : (over : ℕ) (steps : List Step) → over ≤ 100 → AddAtMost most_unit_amount steps
-    → AddAtMost most_each (map (times_step over) steps)
+small_times : (over : ℕ) (steps : List Step) → over ≤ most_split_over → AddAtMost most_unit_amount steps
+    → AddAtMost most_split_amount (map (times_step over) steps)
 small_times over steps few small k step at =
     let own = map_item (times_step over) steps k step at in
-    subst (λ (s : Step). IsAtMost s.each most_each) own.2 (times_within over own.0.each few (small k own.0 own.1))
+    subst (λ (s : Step). IsAtMost s.each most_split_amount) own.2 (times_within over own.0.each few (small k own.0 own.1))
 
 both_true : (a b : Bool) → (a && b) ≡ true → (a ≡ true) × (b ≡ true)
 both_true true b is = (refl, is)
 both_true false b is = absurd (false≢true is)
+
+-- numbers within a limit are within a larger one
+number_wider : (z : ℤ) (few more : ℕ) → few ≤ more → IsAtMost z few → IsAtMost z more
+number_wider z few more most small =
+    record { low = omega (arith, ints, most, small.low); high = omega (arith, ints, most, small.high) }
+
+pub set_wider : (few more firms : ℕ) (set : CountSet) → few ≤ more → IsSetWithin few firms set → IsSetWithin more firms set
+set_wider few more firms set most is = record {
+  known = is.known;
+  around = is.around;
+  few = is.few;
+  concave = is.concave;
+  small = λ k step at. number_wider step.each few more most (is.small k step at);
+  constant = number_wider set.constant few more most is.constant;
+}
+
+market_wider : (trades few more : ℕ) (market : UnitMarket) → few ≤ more → IsMarketWithin trades few market
+    → IsMarketWithin trades more market
+market_wider trades few more market most is = record {
+  few_firms = is.few_firms;
+  few_trades = is.few_trades;
+  few_sets = is.few_sets;
+  few_units = is.few_units;
+  between = is.between;
+  as_many = is.as_many;
+  small = λ t each at. record {
+    seller = number_wider each.seller few more most (is.small t each at).seller;
+    buyer = number_wider each.buyer few more most (is.small t each at).buyer;
+  };
+  each = λ i set at. set_wider few more market.firms set most (is.each i set at);
+  laminar = is.laminar;
+}
 
 -- what is signed and what is free of each trade is within its units
 abbrev pub IsFree : List UnitTrade → List UnitContract → (ℕ → ℕ) → Type 0
@@ -81,7 +112,7 @@ IsFree trades contracts free =
     (t : ℕ) → t < length trades → signed_units contracts t + free t ≤ (trade_at trades t).units
 
 module _ (market : UnitMarket) (over : ℕ) (contracts : List UnitContract) (free : ℕ → ℕ) (split : UnitMarket)
-    (market_is : IsUnitMarket market) (few_over : over ≤ 100) (few : length contracts ≤ most_unit_trades)
+    (market_is : IsUnitMarket market) (few_over : over ≤ most_split_over) (few : length contracts ≤ most_unit_trades)
     (known : AreKnown (length market.trades.items) contracts) (within : IsFree market.trades.items contracts free)
     (is : IsSplitMarket market over contracts free split) where
   trades : List UnitTrade
@@ -152,14 +183,14 @@ module _ (market : UnitMarket) (over : ℕ) (contracts : List UnitContract) (fre
         apart = λ e. own.apart (sym seller ∙ e ∙ buyer);
       }
 
-  small : (t : ℕ) (each : UnitAmounts) → slice_get split.amounts.items t ≡ Some each → AreAmountsWithin most_each each
+  small : (t : ℕ) (each : UnitAmounts) → slice_get split.amounts.items t ≡ Some each → AreAmountsWithin most_split_amount each
   small t each at =
       let made = map_item (λ o. times_amounts over (amounts_at market.amounts.items o))
       (origins (length market.trades.items) contracts) t each
       (sym (ap (λ (xs : List UnitAmounts). slice_get xs t) is.amounts) ∙ at) in
       let below = origins_known (length market.trades.items) contracts known t made.0 made.1 in
       let own = small_amounts market market_is made.0 below in
-      subst (AreAmountsWithin most_each) made.2 (record {
+      subst (AreAmountsWithin most_split_amount) made.2 (record {
         seller = times_within over (amounts_at market.amounts.items made.0).seller few_over own.0;
         buyer = times_within over (amounts_at market.amounts.items made.0).buyer few_over own.1;
       })
@@ -174,7 +205,7 @@ module _ (market : UnitMarket) (over : ℕ) (contracts : List UnitContract) (fre
       let found = item_at market.sets.items i (omega (arith, inside, long)) in
       (found.0, found.1, is.sets.each i found.0 one found.1 at)
 
-  each_set : (i : ℕ) (one : CountSet) → slice_get split.sets.items i ≡ Some one → IsSetWithin most_each split.firms one
+  each_set : (i : ℕ) (one : CountSet) → slice_get split.sets.items i ≡ Some one → IsSetWithin most_split_amount split.firms one
   each_set i one at =
       let found = set_at i one at in
       let set = found.0 in
@@ -189,8 +220,8 @@ module _ (market : UnitMarket) (over : ℕ) (contracts : List UnitContract) (fre
         around = let around = own.around in omega (arith, around, back, room_is);
         few = let units = own.few in omega (arith, units, room_is);
         concave = subst AreFalling (sym part.steps) (falling_times over set.steps.items own.concave);
-        small = subst (AddAtMost most_each) (sym part.steps) (small_times over set.steps.items few_over own.small);
-        constant = subst (λ (z : ℤ). IsAtMost z most_each) (sym part.constant)
+        small = subst (AddAtMost most_split_amount) (sym part.steps) (small_times over set.steps.items few_over own.small);
+        constant = subst (λ (z : ℤ). IsAtMost z most_split_amount) (sym part.constant)
             (times_within over set.constant few_over own.constant);
       }
 
@@ -210,8 +241,8 @@ module _ (market : UnitMarket) (over : ℕ) (contracts : List UnitContract) (fre
       joins true b first second = second
       joins false b first second = absurd (false≢true first)
 
-  pub split_wide : IsWideMarket split
-  split_wide = record {
+  pub split_within : IsMarketWithin most_wide_trades most_split_amount split
+  split_within = record {
     few_firms = let firms = is.firms in let few_firms = market_is.few_firms in omega (arith, firms, few_firms);
     few_trades = let most = market_is.few_trades in omega (arith, sized, most, few);
     few_sets = let long = is.sets.sized in let most = market_is.few_sets in omega (arith, long, most);
@@ -225,3 +256,7 @@ module _ (market : UnitMarket) (over : ℕ) (contracts : List UnitContract) (fre
     each = each_set;
     laminar = laminar;
   }
+
+  -- so it is served
+  pub split_wide : IsWideMarket split
+  split_wide = market_wider most_wide_trades most_split_amount most_wide_amount split (omega arith) split_within

@@ -3,12 +3,15 @@ use Rattle.std.specs.Prelude.{◌≡◌, ℕ, ◌+◌, ◌<◌, ℤ, pos, ◌*�
 use Rattle.std.specs.List.{range_with_len}
 use Rattle.tn_base.specs.Arcs.{IsAtMost}
 use Rattle.tn_counts.specs.Counts.{CountFirm}
+use Rattle.tn_counts.specs.Laminar.{firms_of}
 use Rattle.tn_counts.specs.Outcomes.{CompletesByCounts, contract_at, counted, signed_units, unsigned_units}
 use Rattle.tn_counts.specs.declared.contract.UnitContract.{UnitContract}
 use Rattle.tn_counts.specs.declared.market.Pin.{Pin}
+use Rattle.tn_counts.specs.declared.market.UnitMarket.{UnitMarket}
 use Rattle.tn_counts.specs.declared.trade.UnitTrade.{UnitTrade}
 use Rattle.tn_tree.specs.Lists.{count_in, price_in}
-use Rattle.tn_tree.specs.Pinned.{most_beside_price}
+use Rattle.tn_tree.specs.Pinned.{GainBeside, most_beside_price}
+use Rattle.tn_unit_judge.specs.Split.{IsSplitMarket, signed_counts}
 use Rattle.tn_unit_judge.specs.declared.completions.UnitCompletion.{UnitCompletion}
 use Rattle.tn_unit_judge.specs.declared.completions.UnitCompletion.TheVariants.{Completed, Incomplete}
 
@@ -38,12 +41,6 @@ abbrev pub IsIncomplete : List CountFirm → List UnitTrade → ℤ → List Uni
 IsIncomplete firms trades over contracts = (e : ℤ) (prices : ℕ → ℤ) → pos 1 ≤ℤ e
     → CompletesByCounts firms trades (over *ℤ e) (counted e contracts) prices → ⊥
 
--- prices that complete an outcome, where there are any
-abbrev pub FindsCompletion : List CountFirm → List UnitTrade → ℤ → List UnitContract → UnitCompletion → Type 0
-FindsCompletion firms trades over contracts (Completed prices) =
-    AreCompleting firms trades over contracts prices.items
-FindsCompletion firms trades over contracts Incomplete = IsIncomplete firms trades over contracts
-
 -- how many units of each trade are not signed
 pub record AreUnsigned (trades : List UnitTrade) (contracts : List UnitContract) (free : List ℕ) : Type 0 where
   pub one_each : length free ≡ length trades
@@ -60,3 +57,16 @@ contract_pins contracts = map (contract_pin contracts) (range_with_len 0 (length
 abbrev pub IsPriceOf : List UnitContract → List ℤ → ℕ → ℤ → Type 0
 IsPriceOf contracts beside t price =
     IsSignedAt contracts t price ⊎ ((signed_units contracts t ≡ 0) × (price ≡ price_in beside (length contracts + t)))
+
+-- with a unit of each part of the split network that is passed on, all firms together gain at any prices of what is unsigned
+pub record IsPassing (market : UnitMarket) (over : ℕ) (contracts : List UnitContract) (passed : List ℕ) : Type 0 where
+  pub split : UnitMarket
+  pub is : IsSplitMarket market over contracts (unsigned_units market.trades.items contracts) split
+  pub gain : GainBeside split (contract_pins contracts) (count_in (signed_counts (length market.trades.items) contracts)) passed
+
+-- prices that complete an outcome, where there are any
+abbrev pub FindsCompletion : UnitMarket → ℕ → List UnitContract → UnitCompletion → Type 0
+FindsCompletion market over contracts (Completed prices) =
+    AreCompleting (firms_of market) market.trades.items (pos over) contracts prices.items
+FindsCompletion market over contracts (Incomplete passed) =
+    IsIncomplete (firms_of market) market.trades.items (pos over) contracts × IsPassing market over contracts passed.items

@@ -2,5 +2,6 @@
 pub mod Split
 pub mod Verdict
 pub mod Completion
+pub mod Blocks
 pub mod Judges
 pub mod Served

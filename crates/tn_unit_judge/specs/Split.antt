@@ -1,14 +1,24 @@
 -- The split network of an outcome as a market: a trade for each contract, then one for what is unsigned of each trade, in the
 -- same sets, and all numbers counted as often as the outcome's denominator says.
-use Rattle.std.specs.Prelude.{◌≡◌, ℕ, ℤ, pos, ◌*ℤ◌, List, ◌++◌, length, map, get_or, slice_get, Some, ◌&&◌, nat_lt}
+use Rattle.std.specs.Prelude.{◌≡◌, ℕ, ◌*◌, ℤ, pos, ◌*ℤ◌, List, ◌++◌, length, map, get_or, slice_get, Some, ◌&&◌, nat_lt}
 use Rattle.std.specs.List.{range_with_len}
 use Rattle.tn_links.specs.declared.link.Step.{Step}
 use Rattle.tn_counts.specs.Laminar.{amounts_at, holds}
 use Rattle.tn_counts.specs.Outcomes.{split_trades}
+use Rattle.tn_counts.specs.Widths.{most_unit_amount}
 use Rattle.tn_counts.specs.declared.contract.UnitContract.{UnitContract}
 use Rattle.tn_counts.specs.declared.market.UnitMarket.{UnitMarket}
 use Rattle.tn_counts.specs.declared.set.CountSet.{CountSet}
 use Rattle.tn_counts.specs.declared.trade.UnitAmounts.{UnitAmounts}
+
+-- all numbers are counted at most so often: a denominator of at most 100, times a unit of each of 4,096 trades at both ends,
+-- and once more
+abbrev pub most_split_over : ℕ
+most_split_over = 100 * 8193
+
+-- a number is at most so much then, in size
+abbrev pub most_split_amount : ℕ
+most_split_amount = most_split_over * most_unit_amount
 
 -- the trade of which each trade of the split network is a part
 abbrev pub origins : ℕ → List UnitContract → List ℕ

@@ -3,6 +3,7 @@
 ghost use Rattle.std.specs.Prelude.{◌≡◌, ℕ, ◌+◌, ◌<◌, ◌≤◌, ◌-◌, pos, length, map, set, slice_get, Some, All, IfOk};
 ghost use Rattle.std.specs.List.{range_with_len};
 ghost use Rattle.tn_base.specs.Arcs.{IsAtMost};
+ghost use Rattle.tn_links.specs.Widths.{most_each};
 ghost use Rattle.tn_counts.specs.Laminar.{firms_of};
 ghost use Rattle.tn_counts.specs.Markets.{IsUnitMarket};
 ghost use Rattle.tn_counts.specs.Outcomes.{AreUnitContracts, IsRationalByCounts};
@@ -24,8 +25,9 @@ use tn_tree::{PinnedSupport, support_beside};
 pub enum UnitCompletion {
     /// A price of a unit of each trade, over the outcome's denominator. Where units of a trade are signed, it is theirs.
     Completed { prices: Vec<i128> },
-    /// No prices complete the outcome, over any denominator.
-    Incomplete,
+    /// No prices complete the outcome, over any denominator: with a unit of each part of the split network that is passed
+    /// on, contracts first, all firms together gain at any prices.
+    Incomplete { passed: Vec<u32> },
 }
 
 /// How many units each trade has.
@@ -46,7 +48,7 @@ pub(crate) fn take_off(free: &mut Vec<u32>, contract: &UnitContract)
 }
 
 /// How many units of each trade are not signed.
-fn unsigned_of(
+pub(crate) fn unsigned_of(
     alloc: Global,
     trades: &[UnitTrade],
     contracts: &[UnitContract],
@@ -62,10 +64,10 @@ fn unsigned_of(
 }
 
 /// The contracts as pins of trades of the split network.
-fn pins_of(alloc: Global, contracts: &[UnitContract]) -> Result<Vec<Pin>, OutOfMemory>
+pub(crate) fn pins_of(alloc: Global, contracts: &[UnitContract]) -> Result<Vec<Pin>, OutOfMemory>
     requires few { length contracts.now ≤ most_unit_trades }
     requires small { (k : ℕ) (contract : UnitContract) → slice_get contracts.now k ≡ Some contract
-        → IsAtMost contract.price most_unit_price }
+        → IsAtMost contract.price most_each }
     ensures { IfOk result (λ pins. pins.items ≡ contract_pins contracts.now) }
 {
     let mut pins = Vec::new(alloc);
@@ -142,7 +144,7 @@ pub fn completion(
     requires small { (k : ℕ) (contract : UnitContract) → slice_get contracts.now k ≡ Some contract
         → IsAtMost contract.price most_unit_price }
     requires rational { IsRationalByCounts (firms_of market.now) market.now.trades.items (pos over) contracts.now }
-    ensures { IfOk result (FindsCompletion (firms_of market.now) market.now.trades.items (pos over) contracts.now) }
+    ensures { IfOk result (FindsCompletion market.now over contracts.now) }
 {
     let trades = market.trades.len() as u32;
     let free = unsigned_of(alloc, &market.trades, contracts)?;
@@ -154,6 +156,6 @@ pub fn completion(
             let prices = prices_by(alloc, trades, contracts, &beside)?;
             Ok(UnitCompletion::Completed { prices })
         }
-        PinnedSupport::Unsupported => Ok(UnitCompletion::Incomplete),
+        PinnedSupport::Unsupported { passed } => Ok(UnitCompletion::Incomplete { passed }),
     }
 }

@@ -1,6 +1,8 @@
-//! Outcomes of markets whose trades have units: which firm would drop contracts, and which prices complete them.
+//! Outcomes of markets whose trades have units: which firm would drop contracts, which prices
+//! complete them, and which offers block them.
 #![tactic(auto)]
 
+mod blocks;
 mod completions;
 mod contracts;
 mod drops;

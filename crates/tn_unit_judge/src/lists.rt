@@ -3,6 +3,7 @@
 ghost use Rattle.std.specs.Prelude.{◌≡◌, ℕ, ◌<◌, ◌≤◌, ◌++◌, pos, length, map, slice_get, Some, IfOk};
 ghost use Rattle.std.specs.List.{range_with_len};
 ghost use Rattle.tn_base.specs.Arcs.{IsAtMost};
+ghost use Rattle.tn_links.specs.Widths.{most_each};
 ghost use Rattle.tn_counts.specs.Widths.{most_unit_price};
 ghost use Rattle.tn_counts.specs.declared.contract.UnitContract.{UnitContract};
 ghost use Rattle.tn_unit_judge.specs.Split.{signed_counts, signed_prices};
@@ -40,7 +41,7 @@ pub(crate) fn counts_of(
 
 /// The price of a contract.
 pub(crate) fn price_of(contract: &UnitContract) -> i64
-    requires { IsAtMost contract.now.price most_unit_price }
+    requires { IsAtMost contract.now.price most_each }
     ensures { result ≡ contract.now.price }
 {
     contract.price as i64

@@ -12,7 +12,7 @@ ghost use Rattle.tn_counts.specs.Widths.{most_unit_amount, most_unit_trades, mos
 ghost use Rattle.tn_counts.specs.declared.contract.UnitContract.{UnitContract};
 ghost use Rattle.tn_counts.specs.declared.set.CountSet.{CountSet};
 ghost use Rattle.tn_tree.specs.Lists.{count_in};
-ghost use Rattle.tn_unit_judge.specs.Split.{AreSplitSets, IsSplitMarket, IsSplitSet, origins, times_amounts, times_step};
+ghost use Rattle.tn_unit_judge.specs.Split.{AreSplitSets, IsSplitMarket, IsSplitSet, most_split_over, origins, times_amounts, times_step};
 
 use std::alloc::Global;
 use tn_base::OutOfMemory;
@@ -99,7 +99,7 @@ fn all_parts(
 
 /// A number that is counted so often.
 fn times(over: u32, number: i64) -> i64
-    requires few { over ≤ 100 }
+    requires few { over ≤ most_split_over }
     requires small { IsAtMost number most_unit_amount }
     ensures { result ≡ pos over *ℤ number }
 {
@@ -108,7 +108,7 @@ fn times(over: u32, number: i64) -> i64
 
 /// The amounts of a trade, counted so often.
 fn times_amounts(over: u32, amounts: &[UnitAmounts], t: u32) -> UnitAmounts
-    requires few { over ≤ 100 }
+    requires few { over ≤ most_split_over }
     requires small { HaveSmallAmounts amounts.now }
     requires known { t < length amounts.now }
     ensures { result ≡ times_amounts over (amounts_at amounts.now t) }
@@ -127,7 +127,7 @@ fn split_amounts(
     over: u32,
     from: &[u32],
 ) -> Result<Vec<UnitAmounts>, OutOfMemory>
-    requires few { over ≤ 100 }
+    requires few { over ≤ most_split_over }
     requires small { HaveSmallAmounts amounts.now }
     requires known { (k t : ℕ) → slice_get from.now k ≡ Some t → t < length amounts.now }
     ensures { IfOk result (λ made. made.items ≡ map (λ t. times_amounts over (amounts_at amounts.now t)) from.now) }
@@ -163,7 +163,7 @@ fn split_members(alloc: Global, set: &CountSet, from: &[u32]) -> Result<Vec<u32>
 
 /// A step whose number is counted so often.
 fn times_step(over: u32, step: &Step) -> Step
-    requires few { over ≤ 100 }
+    requires few { over ≤ most_split_over }
     requires small { IsAtMost step.now.each most_unit_amount }
     ensures { result ≡ times_step over step.now }
 {
@@ -175,7 +175,7 @@ fn times_step(over: u32, step: &Step) -> Step
 
 /// Steps whose numbers are counted so often.
 fn times_steps(alloc: Global, over: u32, steps: &[Step]) -> Result<Vec<Step>, OutOfMemory>
-    requires few { over ≤ 100 }
+    requires few { over ≤ most_split_over }
     requires small { AddAtMost most_unit_amount steps.now }
     ensures { IfOk result (λ made. made.items ≡ map (times_step over) steps.now) }
 {
@@ -193,7 +193,7 @@ fn split_set(
     over: u32,
     from: &[u32],
 ) -> Result<CountSet, OutOfMemory>
-    requires few { over ≤ 100 }
+    requires few { over ≤ most_split_over }
     requires set { (firms : ℕ) × IsCountSet firms set.now }
     requires size { length from.now ≤ most_wide_trades }
     ensures { IfOk result (IsSplitSet over from.now set.now) }
@@ -216,7 +216,7 @@ fn split_sets(
     over: u32,
     from: &[u32],
 ) -> Result<Vec<CountSet>, OutOfMemory>
-    requires few { over ≤ 100 }
+    requires few { over ≤ most_split_over }
     requires sets { (i : ℕ) (set : CountSet) → slice_get sets.now i ≡ Some set → (firms : ℕ) × IsCountSet firms set }
     requires size { length from.now ≤ most_wide_trades }
     ensures { IfOk result (λ splits. AreSplitSets over from.now sets.now splits.items) }
@@ -237,7 +237,7 @@ pub(crate) fn split_market(
     free: &[u32],
 ) -> Result<UnitMarket, OutOfMemory>
     requires market { IsUnitMarket market.now }
-    requires over { over ≤ 100 }
+    requires over { over ≤ most_split_over }
     requires few { length contracts.now ≤ most_unit_trades }
     requires known { (k : ℕ) (contract : UnitContract) → slice_get contracts.now k ≡ Some contract
         → contract.trade < length market.now.trades.items }

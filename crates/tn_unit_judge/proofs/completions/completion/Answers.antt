@@ -1,6 +1,7 @@
 -- What shows the clauses of `completion` of `src/completions.rt`.
 use Rattle.std.proofs.Common.{◌≡◌, ℕ, length, List, sym, ap, ◌∙◌, subst, arith, ℤ}
 use Rattle.std.specs.Prelude.{All}
+use Rattle.std.proofs.lemmas.Int.{ints}
 use Rattle.tn_base.specs.Arcs.{IsAtMost}
 use Rattle.tn_counts.specs.Counts.{AreCounts}
 use Rattle.tn_counts.specs.Markets.{ArePins}
@@ -44,7 +45,7 @@ pub support_beside-requires-clause-market : goal.support_beside-requires-clause-
 support_beside-requires-clause-market c =
     split_wide c.args.market.now c.args.over c.args.contracts.now
     (unsigned_units c.args.market.now.trades.items c.args.contracts.now) c.in_ok-split.split c.requires.market
-    c.requires.over c.requires.few c.requires.contracts.known
+    (let over = c.requires.over in omega (arith, over)) c.requires.few c.requires.contracts.known
     (λ t below. let within = c.requires.contracts.within t below in omega (arith, within))
     (split_unsigned c.args.market.now c.args.over c.args.contracts.now c.deref.result.now c.deref-2.result.now
     c.in_ok-free.free.items c.in_ok-split.split c.deref.ensures.value c.deref-2.ensures.value c.in_ok-free.ensures
@@ -55,7 +56,14 @@ support_beside-requires-clause-pins c =
     let long = ap length c.in_ok-split.ensures.trades
     ∙ split_sized c.args.market.now.trades.items c.args.contracts.now (count_in c.deref-2.result.now) in
     subst (ArePins (length c.in_ok-split.split.trades.items)) (sym (c.deref-3.ensures.value ∙ c.in_ok-pins.ensures))
-    (contracts_pin (length c.in_ok-split.split.trades.items) c.args.contracts.now c.requires.small (omega (arith, long)))
+    (contracts_pin (length c.in_ok-split.split.trades.items) c.args.contracts.now
+    (λ k contract at. let small = c.requires.small k contract at in
+    record { low = omega (arith, ints, small.low); high = omega (arith, ints, small.high) }) (omega (arith, long)))
+
+pub pins_of-requires-clause-small : goal.pins_of-requires-clause-small
+pins_of-requires-clause-small c = λ k contract at.
+    let small = c.requires.small k contract at in
+    record { low = omega (arith, ints, small.low); high = omega (arith, ints, small.high) }
 
 -- what is signed, as it is read
 signed_read : (n m : ℕ) (contracts : List UnitContract) (lent counts : List ℕ) → n ≡ m → lent ≡ counts
@@ -136,14 +144,17 @@ pub returns : goal.returns
 returns c =
     let sized = c.args.market.now.trades.ok.0 in
     let count = c.len-trades.ensures in
-    incomplete_by c.args.market.now c.args.over c.args.contracts.now c.in_ok-split.split c.requires.contracts.known
-    (split_unsigned c.args.market.now c.args.over c.args.contracts.now c.deref.result.now c.deref-2.result.now
+    let unsigned = split_unsigned c.args.market.now c.args.over c.args.contracts.now c.deref.result.now c.deref-2.result.now
     c.in_ok-free.free.items c.in_ok-split.split c.deref.ensures.value c.deref-2.ensures.value c.in_ok-free.ensures
-    c.in_ok-split.ensures)
-    (beside_by c.in_ok-split.split c.deref-3.result.now (contract_pins c.args.contracts.now) c.deref-4.result.now
-    (signed_counts (length c.args.market.now.trades.items) c.args.contracts.now) Unsupported
+    c.in_ok-split.ensures in
+    let found = beside_by c.in_ok-split.split c.deref-3.result.now (contract_pins c.args.contracts.now) c.deref-4.result.now
+    (signed_counts (length c.args.market.now.trades.items) c.args.contracts.now) (Unsupported c.in-Unsupported.passed)
     (c.deref-3.ensures.value ∙ c.in_ok-pins.ensures)
     (signed_read c.len-trades.result (length c.args.market.now.trades.items) c.args.contracts.now c.deref-4.result.now
     c.in_ok-counts.counts.items (omega (arith, sized, count)) c.deref-4.ensures.value c.in_ok-counts.ensures)
     (subst (SupportsBeside c.in_ok-split.split c.deref-3.result.now (count_in c.deref-4.result.now)) c.in-Unsupported.is
-    c.in_ok-beside.ensures))
+    c.in_ok-beside.ensures) in (
+      incomplete_by c.args.market.now c.args.over c.args.contracts.now c.in_ok-split.split c.requires.contracts.known unsigned
+          found.0,
+      record { split = c.in_ok-split.split; is = unsigned; gain = found.1 },
+    )

@@ -39,7 +39,7 @@ pub hold_wide-requires-clause-market : goal.hold_wide-requires-clause-market
 hold_wide-requires-clause-market c =
     let sized = c.args.market.now.trades.ok.0 in
     let count = c.len-trades.ensures in
-    split_wide c.args.market.now c.args.over c.args.contracts.now (λ t. 0) c.in_ok-split.split c.requires.market c.requires.over
+    split_wide c.args.market.now c.args.over c.args.contracts.now (λ t. 0) c.in_ok-split.split c.requires.market (let over = c.requires.over in omega (arith, over))
     c.requires.few c.requires.contracts.known
     (λ t below. let within = c.requires.contracts.within t below in omega (arith, within))
     (split_none c.args.market.now c.args.over c.args.contracts.now c.deref.result.now c.in_ok-free.free.items

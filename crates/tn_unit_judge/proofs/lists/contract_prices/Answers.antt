@@ -9,10 +9,11 @@ use Rattle.tn_unit_judge.proofs.lists.contract_prices.Goals as goal
 
 pub price_of-requires : goal.price_of-requires
 price_of-requires c =
-    c.requires c.loop-contract.contract-index
+    let small = c.requires c.loop-contract.contract-index
     (get_or c.args.contracts.now c.loop-contract.contract-index (record { trade = 0; units = 0; price = pos 0 }))
     (slice_get-get_or c.args.contracts.now c.loop-contract.contract-index (record { trade = 0; units = 0; price = pos 0 })
-    c.loop-contract-test.true)
+    c.loop-contract-test.true) in
+    record { low = omega (arith, ints, small.low); high = omega (arith, ints, small.high) }
 
 pub loop-contract-preserved : goal.loop-contract-preserved
 loop-contract-preserved c =
