@@ -45,6 +45,8 @@ mod standard;
 #[cfg(test)]
 mod two_stalls;
 #[cfg(test)]
+mod unit_outcomes;
+#[cfg(test)]
 mod units;
 #[cfg(test)]
 mod worked_rows;

@@ -8,7 +8,7 @@ use tn_links::Step;
 use tn_tree::{best_counts, solve_market};
 
 /// A market without trades and sets.
-fn market_of(alloc: Global, firms: u32) -> UnitMarket {
+pub(crate) fn market_of(alloc: Global, firms: u32) -> UnitMarket {
     UnitMarket {
         firms,
         trades: Vec::new(alloc),
@@ -18,7 +18,10 @@ fn market_of(alloc: Global, firms: u32) -> UnitMarket {
 }
 
 /// Adds a trade: its seller, its buyer, its units, and what shipping one costs the seller.
-fn add_trade(market: &mut UnitMarket, row: (u32, u32, u32, i64)) -> Result<(), OutOfMemory> {
+pub(crate) fn add_trade(
+    market: &mut UnitMarket,
+    row: (u32, u32, u32, i64),
+) -> Result<(), OutOfMemory> {
     let (seller, buyer, units, freight) = row;
     market.trades.push(UnitTrade {
         seller,
@@ -33,7 +36,7 @@ fn add_trade(market: &mut UnitMarket, row: (u32, u32, u32, i64)) -> Result<(), O
 }
 
 /// Adds a set of a firm: its trades, and what units add from the fewest on, which are so many below none.
-fn add_set(
+pub(crate) fn add_set(
     alloc: Global,
     market: &mut UnitMarket,
     firm: u32,
@@ -60,7 +63,7 @@ fn add_set(
 }
 
 /// Three mills (0 to 2), two warehouses (3 and 4), which hand on what they get, and three customers (5 to 7).
-fn mills(alloc: Global) -> Result<UnitMarket, OutOfMemory> {
+pub(crate) fn mills(alloc: Global) -> Result<UnitMarket, OutOfMemory> {
     let mut market = market_of(alloc, 8);
     for row in [
         (0, 3, 350, 0),
